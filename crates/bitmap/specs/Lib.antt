@@ -1,0 +1,3 @@
+pub mod Bitmaps
+pub mod Left
+pub mod Refusals

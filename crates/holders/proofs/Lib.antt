@@ -1,0 +1,12 @@
+pub mod Lengths
+pub mod After
+pub mod Tally
+pub mod Below
+pub mod Codes
+pub mod Parting
+pub mod Nth
+pub mod Onward
+pub mod Fronts
+pub mod Filling
+pub mod Validities
+pub mod Along

@@ -1,0 +1,10 @@
+pub mod Judge
+pub mod Convert
+pub mod Cases
+pub mod Left
+pub mod Holding
+pub mod Shapes
+pub mod Counts
+pub mod Entries
+pub mod Cursors
+pub mod Filled

@@ -1,0 +1,7 @@
+pub mod Header
+pub mod Runs
+pub mod Borrowed
+pub mod Rows
+pub mod Held
+pub mod Cursor
+pub mod Table

@@ -1,0 +1,3 @@
+mod Streams
+mod Writes
+mod Cuts
