@@ -10,3 +10,6 @@ pub mod Fronts
 pub mod Filling
 pub mod Validities
 pub mod Along
+pub mod Measures
+pub mod Spreads
+pub mod Keeps

@@ -1,6 +1,6 @@
 -- What a holder means: the rows not used yet, and the entries of the dictionary.
 use mathlib.Core.Bool.{Bool}
-use mathlib.Core.List.{List}
+use mathlib.Core.List.{List, map}
 use Prim.Native.Nat.{ℕ}
 use Rattle.std.specs.declared.option.Option.{Option}
 use Rattle.std.specs.declared.result.Result.{Result}
@@ -8,7 +8,9 @@ use Rattle.std.specs.declared.result.Result.the-variants.{Ok, Err}
 use Rattle.faults.specs.declared.types.Cause.{Cause}
 use Rattle.holders.specs.Judge.{spread, Verdict, Page, Holds, Fault, as-page, as-dict, page-rows, dict-held}
 use Rattle.holders.specs.Left.{present-left, held-entries}
+use Rattle.values.specs.Values.{Value, Row}
 use Rattle.holders.specs.Cursors.{to-give}
+use Rattle.holders.specs.Columns.{row-of}
 use Rattle.holders.specs.Judge.{form-of}
 use Rattle.holders.specs.declared.holder.Holder.{Holder}
 
@@ -40,3 +42,7 @@ page-verdict {F} h n e flag bs = as-page (page-rows (form-of F) (h .optional) (h
 
 abbrev pub dict-verdict : {F : ℕ} → Holder F → ℕ → List ℕ → Verdict (List (List ℕ)) (Option (List ℕ))
 dict-verdict {F} h n bs = as-dict (dict-held (form-of F) (held h) n bs)
+
+-- the rows not used yet, each null or its converted value
+abbrev pub unused-as : {F : ℕ} → (List ℕ → Value) → Holder F → List Row
+unused-as {F} f h = map (row-of f) (unused h)

@@ -1,4 +1,5 @@
 pub mod Judge
+pub mod Columns
 pub mod Convert
 pub mod Cases
 pub mod Left

@@ -2,14 +2,17 @@ ghost use mathlib.Core.Path.{_≡_};
 ghost use mathlib.Core.Bool.{true};
 ghost use mathlib.Core.List.{List, map};
 ghost use Prim.Native.Nat.{ℕ};
+ghost use lib.IntN.{ℤ};
 ghost use Rattle.std.specs.Options.{mapped};
 ghost use Rattle.pages.specs.Delivered.{first, others};
-ghost use Rattle.values.specs.Values.{Value, weight};
+ghost use Rattle.values.specs.Values.{Value, number, weight};
 ghost use Rattle.holders.specs.Cursors.{to-give};
 
 use crate::page_values::PageValues;
 use std::marker::PhantomData;
+use values::Element;
 use values::Valued;
+
 
 // Values that come one after the other.
 pub trait Cursor {
@@ -22,35 +25,61 @@ pub trait Cursor {
         ensures after { λ _. ⌜ left (now (self .exit)) ≡ others (left (now (self .entry))) ⌝ };
 }
 
-// What becomes of a value's bytes in pages of the form F: a T.
-pub trait Conversion<'a, const F: u8, T: Valued> {
+// A cursor that can be put over the values of a page, each of them converted.
+pub trait OverPage<'a>: Cursor {
     ghost value: { List ℕ → Value };
 
-    fn convert(&self, bytes: &'a [u8]) -> T
-        ensures { λ r. ⌜ T·Valued .value r ≡ value (now (bytes .entry)) ⌝ };
+    fn load(&mut self, values: PageValues<'a>)
+        ensures { λ _. ⌜ Self·Cursor .left (now (self .exit)) ≡ map value (to-give (values .entry)) ⌝ };
+
+    fn rest(&self) -> PageValues<'a>
+        ensures { λ r. ⌜ map value (to-give r) ≡ Self·Cursor .left (now (self .entry)) ⌝ };
 
     // Whether no value takes any of a chunk's memory for bytes.
     fn light(&self) -> bool
         ensures { λ r. ⌜ (r ≡ true → (bs : List ℕ) → weight (value bs) ≡ 0) ⌝ };
 }
 
-// The values of a page, converted.
-#[derive(Drop)]
-pub struct Converted<'a, const F: u8, T, K> {
-    pub(crate) values: PageValues<'a, F>,
-    pub(crate) op: K,
-    pub(crate) item: PhantomData<T>,
+// What becomes of a value's bytes: an interface of one function, to a number.
+pub trait Conversion<T: Element> {
+    ghost int: { List ℕ → ℤ };
+
+    fn convert(&self, bytes: &[u8]) -> T
+        ensures { λ r. ⌜ T·Element .int r ≡ int (now (bytes .entry)) ⌝ };
 }
 
-pub impl<'a, const F: u8, T: Valued, K: Conversion<'a, F, T>> Cursor for Converted<'a, F, T, K> as ConvertedCursor {
+// The values of a page, converted to numbers.
+pub struct Converted<'a, T, K> {
+    values: PageValues<'a>,
+    op: K,
+    item: PhantomData<T>,
+}
+
+pub impl<'a, T: Element, K: Conversion<T>> Cursor for Converted<'a, T, K> as ConvertedCursor {
     type Item = T;
 
-    ghost left = { λ s. map (K·Conversion .value) (to-give (s .values)) };
+    ghost left = { λ s. map (λ bs. number (K·Conversion .int bs)) (to-give (s .values)) };
 
     fn next(&mut self) -> Option<T> {
         match self.values.next() {
             None => None,
             Some(bytes) => Some(self.op.convert(bytes)),
         }
+    }
+}
+
+pub impl<'a, T: Element, K: Conversion<T>> OverPage<'a> for Converted<'a, T, K> as ConvertedOverPage {
+    ghost value = { λ bs. number (K·Conversion .int bs) };
+
+    fn load(&mut self, values: PageValues<'a>) {
+        self.values = values;
+    }
+
+    fn rest(&self) -> PageValues<'a> {
+        self.values
+    }
+
+    fn light(&self) -> bool {
+        true
     }
 }

@@ -8,6 +8,7 @@ use crate::types::Dict;
 use crate::page_values::PageValues;
 use hybrid_rle::validity::OptionalPageValidity;
 
+mod extend;
 mod hold;
 
 // The page and the dictionary that a read keeps between its calls.
@@ -17,7 +18,7 @@ pub struct Holder<'a, const F: u8> {
     dict: Option<Dict<'a>>,
     rows: u32,
     validity: OptionalPageValidity<'a>,
-    values: PageValues<'a, F>,
+    values: PageValues<'a>,
     ghost dictionary: { dict-fine (form-of F) dict ≡ true },
     ghost page: { needed (present-left optional rows validity) ≡ values .n },
     ghost count: { length (present-left optional rows validity) ≡ rows },

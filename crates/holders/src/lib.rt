@@ -8,6 +8,7 @@ mod entry;
 mod fill;
 pub mod holder;
 mod indices;
+mod measure;
 mod page;
 pub mod page_values;
 mod present;

@@ -8,10 +8,11 @@ use crate::types::Values;
 
 mod go;
 
-// The n values of a page that are still to come.
+// The n values of a page of some form (by its number, as `form_of` reads it) that are still to come.
 #[derive(Clone, Copy)]
-pub struct PageValues<'a, const F: u8> {
+pub struct PageValues<'a> {
+    pub(crate) form: u8,
     pub(crate) n: usize,
     pub(crate) values: Values<'a>,
-    ghost there: { isSome (values-left (form-of F) n values) ≡ true },
+    ghost there: { isSome (values-left (form-of form) n values) ≡ true },
 }

@@ -33,7 +33,7 @@ impl<'a, const F: u8> Holder<'a, F> {
             dict: None,
             rows: 0,
             validity: OptionalPageValidity::empty(),
-            values: PageValues { n: 0, values: Values::Plain { bytes: &[], at: 0 } },
+            values: PageValues { form: F, n: 0, values: Values::Plain { bytes: &[], at: 0 } },
         }
     }
 
@@ -72,7 +72,7 @@ impl<'a, const F: u8> Holder<'a, F> {
     {
         let mut validity = OptionalPageValidity::empty();
         let (n, values) = checked_page(form_of(F), self.optional, self.dict, &mut validity, p)?;
-        *self = Holder { optional: self.optional, dict: self.dict, rows: p.rows, validity, values: PageValues { n, values } };
+        *self = Holder { optional: self.optional, dict: self.dict, rows: p.rows, validity, values: PageValues { form: F, n, values } };
         Ok(())
     }
 

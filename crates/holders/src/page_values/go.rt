@@ -9,7 +9,7 @@ use super::PageValues;
 use crate::checks::form_of;
 use crate::take::take_value;
 
-impl<'a, const F: u8> PageValues<'a, F> {
+impl<'a> PageValues<'a> {
     pub fn left(&self) -> usize
         ensures { λ r. ⌜ r ≡ length (to-give (now (self .entry))) ⌝ }
     {
@@ -25,8 +25,8 @@ impl<'a, const F: u8> PageValues<'a, F> {
             return None;
         }
         let mut values = self.values;
-        let value = take_value(form_of(F), self.n, &mut values);
-        *self = PageValues { n: self.n - 1, values };
+        let value = take_value(form_of(self.form), self.n, &mut values);
+        *self = PageValues { form: self.form, n: self.n - 1, values };
         Some(value)
     }
 }

@@ -8,5 +8,5 @@ pub returns : need.returns
 returns g c =
     let h = c .args .self .now in
     let ps = present-left (h .optional) (h .rows) (h .validity) in
-    let l = length-given (h .values .n) _ (has-values (form-of (g .F)) (h .values .n) (h .values .values)) (h .values .there) in
+    let l = length-given (h .values .n) _ (has-values (form-of (h .values .form)) (h .values .n) (h .values .values)) (h .values .there) in
     sym (length-spread ps _ (h .page ∙ l) ∙ h .count)

@@ -3,6 +3,6 @@ use Rattle.holders.proofs.Lengths.{has-values, length-given}
 use Rattle.holders.proofs.page_values.PageValues.left.Needs as need
 
 pub returns : need.returns
-returns g c =
+returns c =
     let h = c .args .self .now in
-    length-given (h .n) _ (has-values (form-of (g .F)) (h .n) (h .values)) (h .there)
+    length-given (h .n) _ (has-values (form-of (h .form)) (h .n) (h .values)) (h .there)

@@ -8,7 +8,7 @@ use Rattle.holders.proofs.Lengths.{has-values, none-given}
 use Rattle.holders.proofs.page_values.PageValues.next.Needs as need
 
 pub returns-then-self-eq0 : need.returns-then-self-eq0
-returns-then-self-eq0 g c =
+returns-then-self-eq0 c =
     let h = c .args .self .now in
-    let z : to-give h ≡ [] = none-given (h .n) _ (c .if-self-eq0 .taken) (has-values (form-of (g .F)) (h .n) (h .values)) in
+    let z : to-give h ≡ [] = none-given (h .n) _ (c .if-self-eq0 .taken) (has-values (form-of (h .form)) (h .n) (h .values)) in
     record { given = sym (ap first z); after = z ∙ sym (ap others z) }
