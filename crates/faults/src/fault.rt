@@ -1,6 +1,5 @@
 ghost use mathlib.Core.Path.{_≡_};
 ghost use Rattle.faults.specs.Faults.{number-of, layer-of};
-
 use crate::types::Cause;
 use crate::types::Layer;
 

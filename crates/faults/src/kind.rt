@@ -1,6 +1,5 @@
 ghost use mathlib.Core.Path.{_≡_};
 ghost use Rattle.faults.specs.Names.{kind-of};
-
 use crate::types::Cause;
 use crate::types::Fault;
 use crate::types::Kind;
@@ -16,6 +15,9 @@ pub fn kind(name: &str) -> Result<Kind, Fault>
         "FLOAT" => Ok(Kind::Float),
         "DOUBLE" => Ok(Kind::Double),
         "BYTE_ARRAY" => Ok(Kind::ByteArray),
-        _ => Err(Fault { cause: Cause::Name, count: 0 }),
+        _ => Err(Fault {
+            cause: Cause::Name,
+            count: 0,
+        }),
     }
 }

@@ -38,13 +38,14 @@ eight q w l e = let a = mul-assoc q 8 w in let b = mul-comm 8 w in let d = mul-a
 roomy-run-of : (w : ℕ) (bs : List ℕ) (r : Read) → Roomy w (run-of w bs r)
 roomy-run-of w bs (Err e) = tt
 roomy-run-of w bs (Ok p) =
-    elim (eqb (p .0 % 2) 1) as (λ t. Roomy w (cond t (cut (p .0 / 2 * w) (λ xs. packed xs (p .0 / 2 * 8)) (drop (p .1) bs)) (cut ((w + 7) / 8) (λ xs. repeated (little xs) (p .0 / 2)) (drop (p .1) bs))))
-    [ true ↦ go (leb (p .0 / 2 * w) (length (drop (p .1) bs))) refl
-    | false ↦ elim (leb ((w + 7) / 8) (length (drop (p .1) bs))) as (λ t. Roomy w (cond t (Ok (repeated (little (take ((w + 7) / 8) (drop (p .1) bs))) (p .0 / 2), drop ((w + 7) / 8) (drop (p .1) bs))) (Err Short))) [ true ↦ tt | false ↦ tt ] ]
+    elim (eqb (p .0 % 2) 1) as (λ t. Roomy w (cond t (cut (p .0 / 2 * w) (λ xs. packed xs (p .0 / 2 * 8)) (drop (p .1) bs)) (cut ((w + 7) / 8) (λ xs. repeated (little xs) (p .0 / 2)) (drop (p .1) bs)))) [
+      | true ↦ go (leb (p .0 / 2 * w) (length (drop (p .1) bs))) refl
+      | false ↦ elim (leb ((w + 7) / 8) (length (drop (p .1) bs))) as (λ t. Roomy w (cond t (Ok (repeated (little (take ((w + 7) / 8) (drop (p .1) bs))) (p .0 / 2), drop ((w + 7) / 8) (drop (p .1) bs))) (Err Short))) [ true ↦ tt | false ↦ tt ]
+    ]
   where
-  go : (t : Bool) → leb (p .0 / 2 * w) (length (drop (p .1) bs)) ≡ t → Roomy w (cond t (Ok (packed (take (p .0 / 2 * w) (drop (p .1) bs)) (p .0 / 2 * 8), drop (p .0 / 2 * w) (drop (p .1) bs))) (Err Short))
-  go true e = eight (p .0 / 2) w _ (length-take (p .0 / 2 * w) (drop (p .1) bs) ∙ omega (arith, leb-true _ _ e))
-  go false e = tt
+    go : (t : Bool) → leb (p .0 / 2 * w) (length (drop (p .1) bs)) ≡ t → Roomy w (cond t (Ok (packed (take (p .0 / 2 * w) (drop (p .1) bs)) (p .0 / 2 * 8), drop (p .0 / 2 * w) (drop (p .1) bs))) (Err Short))
+    go true e = eight (p .0 / 2) w _ (length-take (p .0 / 2 * w) (drop (p .1) bs) ∙ omega (arith, leb-true _ _ e))
+    go false e = tt
 
 pub room-at : (w : ℕ) (bs : List ℕ) (r : Run) (rest : List ℕ) → Ok (stretch r, rest) ≡ run w bs → bits-of w r ≤ bits-in r
 room-at w bs (Bitmap xs n) rest e = let r = roomy-run-of w bs (header bs) in rw (sym e) at r
@@ -84,16 +85,16 @@ module _ (w top e : ℕ) (n : ℕ) (bs : List ℕ) (r : Stretch) (rest : List �
   pub below-more : 0 < n → (left : ℕ) → left ≡ n - count r → all-below e (take n (numbers w r)) ≡ true → below e (runs w top n bs) ≡ below e (runs w top left rest)
   below-more h left l a = from n h l a
     where
-    from : (n : ℕ) → 0 < n → left ≡ n - count r → all-below e (take n (numbers w r)) ≡ true → below e (runs w top n bs) ≡ below e (runs w top left rest)
-    from zero h l a = absurd (omega arith)
-    from (suc n) h l a = ap (below e) (runs-more w top n bs) ∙ rw (sym is, fit, l) (below-ahead e (take (suc n) (numbers w r)) (runs w top (suc n - count r) rest) a)
+      from : (n : ℕ) → 0 < n → left ≡ n - count r → all-below e (take n (numbers w r)) ≡ true → below e (runs w top n bs) ≡ below e (runs w top left rest)
+      from zero h l a = absurd (omega arith)
+      from (suc n) h l a = ap (below e) (runs-more w top n bs) ∙ rw (sym is, fit, l) (below-ahead e (take (suc n) (numbers w r)) (runs w top (suc n - count r) rest) a)
 
   pub below-stop : 0 < n → all-below e (take n (numbers w r)) ≡ false → below e (runs w top n bs) ≡ false
   below-stop h a = from n h a
     where
-    from : (n : ℕ) → 0 < n → all-below e (take n (numbers w r)) ≡ false → below e (runs w top n bs) ≡ false
-    from zero h a = absurd (omega arith)
-    from (suc n) h a = ap (below e) (runs-more w top n bs) ∙ rw (sym is, fit) (above-ahead e (take (suc n) (numbers w r)) (runs w top (suc n - count r) rest) a)
+      from : (n : ℕ) → 0 < n → all-below e (take n (numbers w r)) ≡ false → below e (runs w top n bs) ≡ false
+      from zero h a = absurd (omega arith)
+      from (suc n) h a = ap (below e) (runs-more w top n bs) ∙ rw (sym is, fit) (above-ahead e (take (suc n) (numbers w r)) (runs w top (suc n - count r) rest) a)
 
 pub below-err : (w top e n : ℕ) (bs : List ℕ) (b : Broken) → 0 < n → Err b ≡ run w bs → below e (runs w top n bs) ≡ false
 below-err w top e zero bs b h i = absurd (omega arith)
@@ -111,8 +112,9 @@ same-none e v n left k i z = let y : min n left ≡ 0 = sym i ∙ z in sym (ap (
 pub same-some : (e v n left k : ℕ) → k ≡ min n left → (k ≡ 0 → ⊥) → ltb v e ≡ all-below e (take left (replicate n v))
 same-some e v n left k i z = sym (ap (all-below e) (take-replicate-min v n left ∙ ap (λ j. replicate j v) (sym i)) ∙ by (ltb v e) refl)
   where
-  some : 0 < k
-  some = omega arith
-  by : (t : Bool) → ltb v e ≡ t → all-below e (replicate k v) ≡ t
-  by true h = all-same e v k h
-  by false h = some-above e v k some h
+    some : 0 < k
+    some = omega arith
+
+    by : (t : Bool) → ltb v e ≡ t → all-below e (replicate k v) ≡ t
+    by true h = all-same e v k h
+    by false h = some-above e v k some h

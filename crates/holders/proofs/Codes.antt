@@ -44,11 +44,11 @@ pub chosen-some : {A : Type 0} (es : List A) (is : List ℕ) → isSome (chosen 
 chosen-some es [] = refl
 chosen-some es (i ∷ is) = go (chosen-some es is) (nth es i) (ltb i (length es)) (nth-some es i)
   where
-  go : isSome (chosen es is) ≡ all-below (length es) is → (o : Option _) (t : Bool) → isSome o ≡ t → isSome (some-then o (λ x. put x (chosen es is))) ≡ (t && all-below (length es) is)
-  go rest (Some x) true e = some-put x (chosen es is) ∙ rest
-  go rest (Some x) false e = absurd (grind arith)
-  go rest None true e = absurd (grind arith)
-  go rest None false e = refl
+    go : isSome (chosen es is) ≡ all-below (length es) is → (o : Option _) (t : Bool) → isSome o ≡ t → isSome (some-then o (λ x. put x (chosen es is))) ≡ (t && all-below (length es) is)
+    go rest (Some x) true e = some-put x (chosen es is) ∙ rest
+    go rest (Some x) false e = absurd (grind arith)
+    go rest None true e = absurd (grind arith)
+    go rest None false e = refl
 
 pub has-entries : (f : Form) (n : ℕ) (bs : List ℕ) → Has n (entries f n bs)
 has-entries Four n bs = has-test n (eqb (length bs) (n * 4)) (Some (parts 4 n bs)) (length-parts 4 n bs)

@@ -38,15 +38,17 @@ module _ (r : Room) (its : List Value) (xs ys : List Bool) (vs : List Value) (ab
 
   -- after the first stretch there are values and room for the second
   pub able-back : (its′ vs′ : List Value) → its′ ≡ its ++ filled b xs vs → vs′ ≡ drop (needed xs) vs → Able r its′ ys vs′
-  able-back its′ vs′ e f =
-      (omega (arith, able .0, needed-append xs ys, ap length f, length-drop (needed xs) vs),
-      ap (fits r) (ap (λ t. t ++ filled b ys vs′) e ∙ ap (λ t. (its ++ filled b xs vs) ++ filled b ys t) f ∙ append-assoc its (filled b xs vs) (filled b ys (drop (needed xs) vs)) ∙ ap (λ t. its ++ t) (sym (filled-append b xs ys vs enough))) ∙ able .1)
+  able-back its′ vs′ e f = (
+    omega (arith, able .0, needed-append xs ys, ap length f, length-drop (needed xs) vs),
+    ap (fits r) (ap (λ t. t ++ filled b ys vs′) e ∙ ap (λ t. (its ++ filled b xs vs) ++ filled b ys t) f ∙ append-assoc its (filled b xs vs) (filled b ys (drop (needed xs) vs)) ∙ ap (λ t. its ++ t) (sym (filled-append b xs ys vs enough))) ∙ able .1,
+  )
 
   -- the two stretches together
   pub grown : (its₁ vs₁ its₂ vs₂ : List Value) → its₁ ≡ its ++ filled b xs vs → vs₁ ≡ drop (needed xs) vs → its₂ ≡ its₁ ++ filled b ys vs₁ → vs₂ ≡ drop (needed ys) vs₁ → (its₂ ≡ its ++ filled b (xs ++ ys) vs) × (vs₂ ≡ drop (needed (xs ++ ys)) vs)
-  grown its₁ vs₁ its₂ vs₂ e f e₂ f₂ =
-      (e₂ ∙ ap (λ t. t ++ filled b ys vs₁) e ∙ ap (λ t. (its ++ filled b xs vs) ++ filled b ys t) f ∙ append-assoc its (filled b xs vs) (filled b ys (drop (needed xs) vs)) ∙ ap (λ t. its ++ t) (sym (filled-append b xs ys vs enough)),
-      f₂ ∙ ap (drop (needed ys)) f ∙ drop-drop (needed ys) (needed xs) vs ∙ ap (λ k. drop k vs) (omega (arith, needed-append xs ys)))
+  grown its₁ vs₁ its₂ vs₂ e f e₂ f₂ = (
+    e₂ ∙ ap (λ t. t ++ filled b ys vs₁) e ∙ ap (λ t. (its ++ filled b xs vs) ++ filled b ys t) f ∙ append-assoc its (filled b xs vs) (filled b ys (drop (needed xs) vs)) ∙ ap (λ t. its ++ t) (sym (filled-append b xs ys vs enough)),
+    f₂ ∙ ap (drop (needed ys)) f ∙ drop-drop (needed ys) (needed xs) vs ∙ ap (λ k. drop k vs) (omega (arith, needed-append xs ys)),
+  )
 
 -- a stretch in the midst of all rows
 module _ (r : Room) (its : List Value) (all xs ys zs : List Bool) (vs : List Value) (is : all ≡ xs ++ (ys ++ zs)) (able : Able r its all vs) where

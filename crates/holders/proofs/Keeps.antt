@@ -89,7 +89,8 @@ module _ {F : ℕ} (h : Holder F) (f : List ℕ → Value) (k : ℕ) (within : k
   kept-rows v w d e = record {
     page = needs-left f k ps raws enough (w .n) (present-left (h .optional) (h .rows - k) v) (to-give w) d e (all-needed h) (values-number w);
     count = ap length d ∙ length-drop k ps ∙ ap (λ n. n - k) (h .count);
-    rows = rows-left f k ps raws enough (present-left (h .optional) (h .rows - k) v) (to-give w) d e }
+    rows = rows-left f k ps raws enough (present-left (h .optional) (h .rows - k) v) (to-give w) d e;
+  }
 
   module _ (o : h .optional ≡ true) where
     flat-is : ps ≡ flat (to-come (h .validity))
@@ -152,7 +153,7 @@ each-room true true false e = let z : _≡_ {A = ℕ} 0 1 = cc in absurd (omega 
 
 -- the tests of room, as the code has them and as they are defined
 pub same-tests : (o : Bool) (r : Room) (n k rows len cap count most : ℕ) (us : List Row) (vs : List Value) (bs : List Bool) → length us ≡ rows → len ≡ length vs → cap ≡ r .rows → count ≡ length bs → most ≡ n
-  → (leb k rows && leb (len + k) cap && leb (bits-due o (count + k)) most) ≡ (leb k (length us) && leb (length vs + k) (r .rows) && leb (bits-due o (length bs + k)) n)
+    → (leb k rows && leb (len + k) cap && leb (bits-due o (count + k)) most) ≡ (leb k (length us) && leb (length vs + k) (r .rows) && leb (bits-due o (length bs + k)) n)
 same-tests o r n k rows len cap count most us vs bs a b c d e =
     ap (λ x. leb k x && leb (len + k) cap && leb (bits-due o (count + k)) most) (sym a)
     ∙ ap (λ x. leb k (length us) && leb (x + k) cap && leb (bits-due o (count + k)) most) b

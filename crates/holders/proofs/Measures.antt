@@ -63,12 +63,13 @@ needed-push xs b = needed-append xs (b ∷ []) ∙ ap (λ n. needed xs + n) (nee
 pub needed-byte : (xs ys : List Bool) (b : Bool) (count i : ℕ) → ys ≡ xs ++ (b ∷ []) → count ≡ needed xs → count ≤ i → (count + boolByte b ≡ needed ys) × (count + boolByte b ≤ i + 1)
 needed-byte xs ys b count i e c h = (ap (λ n. n + boolByte b) c ∙ sym (ap needed e ∙ needed-append xs (b ∷ []) ∙ ap (λ n. needed xs + n) (one b)), omega (arith, most b))
   where
-  one : (t : Bool) → needed (t ∷ []) ≡ boolByte t
-  one true = refl
-  one false = refl
-  most : (t : Bool) → boolByte t ≤ 1
-  most true = omega arith
-  most false = omega arith
+    one : (t : Bool) → needed (t ∷ []) ≡ boolByte t
+    one true = refl
+    one false = refl
+
+    most : (t : Bool) → boolByte t ≤ 1
+    most true = omega arith
+    most false = omega arith
 
 pub filled-length : (b : Value) (bs : List Bool) (vs : List Value) → needed bs ≤ length vs → length (filled b bs vs) ≡ length bs
 filled-length b [] vs h = refl

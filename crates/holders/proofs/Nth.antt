@@ -55,9 +55,9 @@ nth-parts w (suc n) (suc i) bs h =
 pub part-there : (w n i : ℕ) (bs : List ℕ) → isSome (fixed w false n bs) ≡ true → i < n → (i * w + w ≤ length bs) × (Some (take w (drop (i * w) bs)) ≡ nth-in (fixed w false n bs) i)
 part-there w n i bs h l = go (eqb (length bs) (n * w)) refl h
   where
-  go : (t : Bool) → eqb (length bs) (n * w) ≡ t → isSome (cond t (Some (parts w n bs)) None) ≡ true → (i * w + w ≤ length bs) × (Some (take w (drop (i * w) bs)) ≡ nth-in (cond t (Some (parts w n bs)) None) i)
-  go true e s =
-      let q = eqb-true _ _ e in
-      let m : (i + 1) * w ≤ n * w = mul-le-mul-right w (omega arith) in
-      (omega (arith, add-mul i 1 w), sym (nth-parts w n i bs l))
-  go false e s = absurd (grind arith)
+    go : (t : Bool) → eqb (length bs) (n * w) ≡ t → isSome (cond t (Some (parts w n bs)) None) ≡ true → (i * w + w ≤ length bs) × (Some (take w (drop (i * w) bs)) ≡ nth-in (cond t (Some (parts w n bs)) None) i)
+    go true e s =
+        let q = eqb-true _ _ e in
+        let m : (i + 1) * w ≤ n * w = mul-le-mul-right w (omega arith) in
+        (omega (arith, add-mul i 1 w), sym (nth-parts w n i bs l))
+    go false e s = absurd (grind arith)

@@ -56,9 +56,9 @@ in-later (Err e) old s = absurd (grind arith)
 pub few-most : (n : ℕ) → Ok tt ≡ few n → n ≤ 1048576
 few-most n e = go (leb n 1048576) refl e
   where
-  go : (t : Bool) → leb n 1048576 ≡ t → _≡_ {A = Result (Unit {0}) Cause} (Ok tt) (cond t (Ok tt) (Err Rows)) → n ≤ 1048576
-  go true h e = leb-true _ _ h
-  go false h e = absurd (grind arith)
+    go : (t : Bool) → leb n 1048576 ≡ t → _≡_ {A = Result (Unit {0}) Cause} (Ok tt) (cond t (Ok tt) (Err Rows)) → n ≤ 1048576
+    go true h e = leb-true _ _ h
+    go false h e = absurd (grind arith)
 
 pub optional-parts : (o : Bool) (n k : ℕ) (levels values body : List ℕ) (old : List (List Bool)) (v : OptionalPageValidity) → o ≡ true → Some (levels, values) ≡ counted body → Ok k ≡ no-fault Validity (tallied (runs 1 1 n levels)) → to-come v ≡ in-place (runs 1 1 n levels) old → Parted o n k v values body
 optional-parts false n k levels values body old v e s t w = absurd (grind arith)

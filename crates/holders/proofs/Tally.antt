@@ -118,9 +118,9 @@ least-of n (repeated v c) true k m e =
     let l = repl (min c n) (eqb v 1) in
     (omega arith, omega arith)
   where
-  repl : (k : ℕ) (b : Bool) → needed (replicate k b) ≤ k
-  repl k true = let e = needed-true k in omega arith
-  repl k false = let e = needed-false k in omega arith
+    repl : (k : ℕ) (b : Bool) → needed (replicate k b) ≤ k
+    repl k true = let e = needed-true k in omega arith
+    repl k false = let e = needed-false k in omega arith
 least-of n r false k m e = absurd (grind arith)
 
 pub tally-least : (n : ℕ) (r : Stretch) (k m : ℕ) → Ok (k, m) ≡ run-tally n r → (k ≤ n) × (m ≤ k)
@@ -132,9 +132,10 @@ packed-tally left bs n k m e f = rw (f, e, rows-packed bs 0 n left) refl
 
 pub repeated-tally : (left v n k : ℕ) → k ≡ min n left → v ≤ 1 → (v ≡ 1 → _≡_ {A = Result (ℕ × ℕ) Broken} (run-tally left (repeated v n)) (Ok (k, k))) × ((v ≡ 1 → ⊥) → _≡_ {A = Result (ℕ × ℕ) Broken} (run-tally left (repeated v n)) (Ok (k, 0)))
 repeated-tally left v n k e h =
-    let a : leb v 1 ≡ true = le-leb v 1 h in
-    (λ i. let t : eqb v 1 ≡ true = eq-eqb v 1 i in rw (a, rows-repeated v n left, sym e, t, needed-true k) refl,
-    λ i. let t : eqb v 1 ≡ false = ne-eqb v 1 i in rw (a, rows-repeated v n left, sym e, t, needed-false k) refl)
+    let a : leb v 1 ≡ true = le-leb v 1 h in (
+      λ i. let t : eqb v 1 ≡ true = eq-eqb v 1 i in rw (a, rows-repeated v n left, sym e, t, needed-true k) refl,
+      λ i. let t : eqb v 1 ≡ false = ne-eqb v 1 i in rw (a, rows-repeated v n left, sym e, t, needed-false k) refl,
+    )
 
 -- a packed run has its bits
 pub run-room : (bs : List ℕ) (r : Run) (rest : List ℕ) → Ok (stretch r, rest) ≡ run 1 bs → bits-of 1 r ≤ bits-in r

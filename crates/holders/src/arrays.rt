@@ -4,7 +4,6 @@ ghost use Prim.Native.Nat.{_≤_};
 ghost use Rattle.std.specs.Options.{isSome};
 ghost use Rattle.holders.specs.Judge as judge;
 ghost use Rattle.holders.specs.Shapes.{halves};
-
 use hybrid_rle::runs::first_number;
 
 // A 4-byte length and that many bytes: they, and the bytes after them.

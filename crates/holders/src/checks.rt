@@ -6,7 +6,6 @@ ghost use Rattle.holders.specs.Judge as judge;
 ghost use Rattle.holders.specs.declared.types.Form.the-variants.{Bits};
 ghost use Rattle.holders.specs.Left.{held-entries, dict-fine};
 ghost use Rattle.holders.specs.Shapes.{entried, fine-in};
-
 use crate::types::Dict;
 use crate::types::Form;
 use faults::types::Cause;
@@ -42,7 +41,11 @@ pub(crate) fn coded(form: Form) -> bool
 }
 
 // Faults 6 and 7; then the dictionary to use, or none if the values are plain.
-pub(crate) fn encoded<'a>(form: Form, dict: Option<Dict<'a>>, encoding: u8) -> Result<Option<Dict<'a>>, Cause>
+pub(crate) fn encoded<'a>(
+    form: Form,
+    dict: Option<Dict<'a>>,
+    encoding: u8,
+) -> Result<Option<Dict<'a>>, Cause>
     requires { ⌜ dict-fine form dict ≡ true ⌝ }
     ensures answer { λ r. ⌜ entried form r ≡ judge.encoded form (held-entries form (dict .entry)) encoding ⌝ }
     ensures fine { λ r. ⌜ fine-in form r ≡ true ⌝ }
@@ -64,7 +67,11 @@ pub(crate) fn fixed_fits(w: usize, optional: bool, n: usize, bytes: &[u8]) -> bo
     requires { ⌜ 1 ≤ w ⌝ ∗ ⌜ w ≤ 8 ⌝ ∗ ⌜ n ≤ 1048576 ⌝ }
     ensures { λ r. ⌜ r ≡ isSome (judge.fixed w optional n (now (bytes .entry))) ⌝ }
 {
-    if optional { bytes.len() % w == 0 && n * w <= bytes.len() } else { bytes.len() == n * w }
+    if optional {
+        bytes.len() % w == 0 && n * w <= bytes.len()
+    } else {
+        bytes.len() == n * w
+    }
 }
 
 pub(crate) fn bits_fit(n: usize, bytes: &[u8]) -> bool

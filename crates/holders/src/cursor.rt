@@ -1,18 +1,16 @@
 ghost use mathlib.Core.Path.{_≡_};
 ghost use mathlib.Core.Bool.{true};
-ghost use mathlib.Core.List.{List, map};
+ghost use mathlib.Core.List.{List, [], map};
 ghost use Prim.Native.Nat.{ℕ};
 ghost use lib.IntN.{ℤ};
 ghost use Rattle.std.specs.Options.{mapped};
 ghost use Rattle.pages.specs.Delivered.{first, others};
 ghost use Rattle.values.specs.Values.{Value, number, weight};
 ghost use Rattle.holders.specs.Cursors.{to-give};
-
 use crate::page_values::PageValues;
 use std::marker::PhantomData;
 use values::Element;
 use values::Valued;
-
 
 // Values that come one after the other.
 pub trait Cursor {
@@ -49,10 +47,24 @@ pub trait Conversion<T: Element> {
 }
 
 // The values of a page, converted to numbers.
+#[derive(Drop)]
 pub struct Converted<'a, T, K> {
     values: PageValues<'a>,
     op: K,
     item: PhantomData<T>,
+}
+
+impl<'a, T: Element, K: Conversion<T>> Converted<'a, T, K> {
+    // Over no page.
+    pub fn new(op: K) -> Self
+        ensures { λ r. ⌜ to-give (r .values) ≡ [] ⌝ }
+    {
+        Converted {
+            values: PageValues::empty(),
+            op,
+            item: PhantomData,
+        }
+    }
 }
 
 pub impl<'a, T: Element, K: Conversion<T>> Cursor for Converted<'a, T, K> as ConvertedCursor {
@@ -68,7 +80,11 @@ pub impl<'a, T: Element, K: Conversion<T>> Cursor for Converted<'a, T, K> as Con
     }
 }
 
-pub impl<'a, T: Element, K: Conversion<T>> OverPage<'a> for Converted<'a, T, K> as ConvertedOverPage {
+pub impl<'a, T: Element, K: Conversion<T>> OverPage<'a> for Converted<
+    'a,
+    T,
+    K,
+> as ConvertedOverPage {
     ghost value = { λ bs. number (K·Conversion .int bs) };
 
     fn load(&mut self, values: PageValues<'a>) {

@@ -10,7 +10,6 @@ ghost use Rattle.hybrid_rle.specs.Cursor.{to-come};
 ghost use Rattle.hybrid_rle.specs.Rows.{flat};
 ghost use Rattle.values.specs.Values.{fits};
 ghost use Rattle.holders.specs.Filled.{Able, filled};
-
 use crate::cursor::Cursor;
 use crate::fill::push_bits;
 use crate::fill::push_same;
@@ -23,7 +22,12 @@ use sinks::pushable::Sink;
 use sinks::pushable::Validity;
 
 // The rows of a piece into sink and validity.
-pub(crate) fn push_piece<'p, C: Cursor, P: Pushable<C::Item>, V: Validity>(validity: &mut V, sink: &mut P, values: &mut C, piece: Piece<'p>)
+pub(crate) fn push_piece<'p, C: Cursor, P: Pushable<C::Item>, V: Validity>(
+    validity: &mut V,
+    sink: &mut P,
+    values: &mut C,
+    piece: Piece<'p>,
+)
     requires inside { ⌜ Inside (Some piece) ⌝ }
     requires able { ⌜ Able (P·Sink .room (now sink)) (P·Sink .items (now sink)) (rows piece) (C·Cursor .left (now values)) ⌝ }
     requires space { ⌜ length (V·Validity .bits (now validity)) + length (rows piece) ≤ V·Validity .room (now validity) ⌝ }
@@ -36,7 +40,11 @@ pub(crate) fn push_piece<'p, C: Cursor, P: Pushable<C::Item>, V: Validity>(valid
     ensures same { λ _. ⌜ V·Validity .home (now (validity .exit)) ≡ V·Validity .home (now (validity .entry)) ⌝ }
 {
     match piece {
-        Piece::Bitmap { bytes, offset, length } => {
+        Piece::Bitmap {
+            bytes,
+            offset,
+            length,
+        } => {
             push_bits(sink, values, bytes, offset, length);
             let _ = validity.extend_from_slice(bytes, offset, length);
         }
@@ -48,7 +56,13 @@ pub(crate) fn push_piece<'p, C: Cursor, P: Pushable<C::Item>, V: Validity>(valid
 }
 
 // The next `limit` rows of the page into sink and validity, the present ones with the next values.
-pub(crate) fn extend_from_decoder<'p, C: Cursor, P: Pushable<C::Item>, V: Validity>(validity: &mut V, page: &mut OptionalPageValidity<'p>, limit: usize, sink: &mut P, values: &mut C)
+pub(crate) fn extend_from_decoder<'p, C: Cursor, P: Pushable<C::Item>, V: Validity>(
+    validity: &mut V,
+    page: &mut OptionalPageValidity<'p>,
+    limit: usize,
+    sink: &mut P,
+    values: &mut C,
+)
     requires rows { ⌜ limit ≤ length (flat (to-come (now page))) ⌝ }
     requires able { ⌜ Able (P·Sink .room (now sink)) (P·Sink .items (now sink)) (take limit (flat (to-come (now page)))) (C·Cursor .left (now values)) ⌝ }
     requires space { ⌜ length (V·Validity .bits (now validity)) + limit ≤ V·Validity .room (now validity) ⌝ }
@@ -73,7 +87,11 @@ pub(crate) fn extend_from_decoder<'p, C: Cursor, P: Pushable<C::Item>, V: Validi
 }
 
 // The next `limit` values into the sink, of a page without nulls.
-pub(crate) fn extend_required<C: Cursor, P: Pushable<C::Item>>(limit: usize, sink: &mut P, values: &mut C)
+pub(crate) fn extend_required<C: Cursor, P: Pushable<C::Item>>(
+    limit: usize,
+    sink: &mut P,
+    values: &mut C,
+)
     requires some { ⌜ limit ≤ length (C·Cursor .left (now values)) ⌝ }
     requires fits { ⌜ fits (P·Sink .room (now sink)) (P·Sink .items (now sink) ++ take limit (C·Cursor .left (now values))) ≡ true ⌝ }
     ensures items { λ _. ⌜ P·Sink .items (now (sink .exit)) ≡ P·Sink .items (now (sink .entry)) ++ take limit (C·Cursor .left (now (values .entry))) ⌝ }

@@ -6,7 +6,6 @@ ghost use Rattle.std.specs.Options.{isSome};
 ghost use Rattle.holders.specs.Judge as judge;
 ghost use Rattle.holders.specs.Left.{indices-left, or-none};
 ghost use Rattle.holders.specs.Entries.{current-count};
-
 use crate::types::Indices;
 use crate::types::Numbers;
 use hybrid_rle::runs::Run;
@@ -58,7 +57,11 @@ impl<'a> Indices<'a> {
         match run {
             Run::Bitmap { bytes, length } => {
                 let length = length.min(self.left);
-                self.current = Numbers::Packed { bytes, at: 0, length };
+                self.current = Numbers::Packed {
+                    bytes,
+                    at: 0,
+                    length,
+                };
                 self.left -= length;
                 self.rest = rest;
             }

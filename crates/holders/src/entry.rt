@@ -6,7 +6,6 @@ ghost use Rattle.std.specs.declared.option.Option.the-variants.{Some};
 ghost use Rattle.holders.specs.Judge as judge;
 ghost use Rattle.holders.specs.Entries.{nth-in};
 ghost use Rattle.holders.specs.Left.{dict-entries};
-
 use crate::arrays::counted;
 use crate::types::Dict;
 use crate::types::Form;

@@ -7,7 +7,6 @@ ghost use denote.Ref.{now};
 ghost use Rattle.hybrid_rle.specs.Rows.{bits};
 ghost use Rattle.holders.specs.Judge.{needed};
 ghost use Rattle.holders.specs.Filled.{Able, filled};
-
 use crate::cursor::Cursor;
 use bitmap::utils::get_bit;
 use sinks::pushable::Pushable;
@@ -47,7 +46,13 @@ pub(crate) fn push_values<C: Cursor, P: Pushable<C::Item>>(sink: &mut P, values:
 }
 
 // n rows, present where their bits are set.
-pub(crate) fn push_bits<C: Cursor, P: Pushable<C::Item>>(sink: &mut P, values: &mut C, bytes: &[u8], offset: usize, n: usize)
+pub(crate) fn push_bits<C: Cursor, P: Pushable<C::Item>>(
+    sink: &mut P,
+    values: &mut C,
+    bytes: &[u8],
+    offset: usize,
+    n: usize,
+)
     requires near { ⌜ offset + n < 2 ^ 64 ⌝ }
     requires able { ⌜ Able (P·Sink .room (now sink)) (P·Sink .items (now sink)) (bits (now bytes) offset n) (C·Cursor .left (now values)) ⌝ }
     ensures items { λ _. ⌜ P·Sink .items (now (sink .exit)) ≡ P·Sink .items (now (sink .entry)) ++ filled (P·Sink .room (now (sink .entry)) .blank) (bits (now (bytes .entry)) offset n) (C·Cursor .left (now (values .entry))) ⌝ }
@@ -62,7 +67,12 @@ pub(crate) fn push_bits<C: Cursor, P: Pushable<C::Item>>(sink: &mut P, values: &
 }
 
 // n rows, all present or all null.
-pub(crate) fn push_same<C: Cursor, P: Pushable<C::Item>>(sink: &mut P, values: &mut C, present: bool, n: usize)
+pub(crate) fn push_same<C: Cursor, P: Pushable<C::Item>>(
+    sink: &mut P,
+    values: &mut C,
+    present: bool,
+    n: usize,
+)
     requires { ⌜ Able (P·Sink .room (now sink)) (P·Sink .items (now sink)) (replicate n present) (C·Cursor .left (now values)) ⌝ }
     ensures items { λ _. ⌜ P·Sink .items (now (sink .exit)) ≡ P·Sink .items (now (sink .entry)) ++ filled (P·Sink .room (now (sink .entry)) .blank) (replicate n present) (C·Cursor .left (now (values .entry))) ⌝ }
     ensures left { λ _. ⌜ C·Cursor .left (now (values .exit)) ≡ drop (needed (replicate n present)) (C·Cursor .left (now (values .entry))) ⌝ }

@@ -3,9 +3,8 @@ ghost use mathlib.Core.Bool.{true};
 ghost use lib.ListN.{length};
 ghost use Rattle.holders.specs.Judge.{form-of, needed};
 ghost use Rattle.holders.specs.Left.{present-left, dict-fine};
-
-use crate::types::Dict;
 use crate::page_values::PageValues;
+use crate::types::Dict;
 use hybrid_rle::validity::OptionalPageValidity;
 
 mod extend;
@@ -25,6 +24,9 @@ pub struct Holder<'a, const F: u8> {
 }
 
 pub type Holder4<'a> = Holder<'a, 4>;
+
 pub type Holder8<'a> = Holder<'a, 8>;
+
 pub type HolderBits<'a> = Holder<'a, 1>;
+
 pub type HolderBytes<'a> = Holder<'a, 0>;

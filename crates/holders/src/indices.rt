@@ -5,7 +5,6 @@ ghost use Rattle.hybrid_rle.specs.Runs.{fields, runs, numbers, count as run-cou
 ghost use mathlib.Core.Bool.{true};
 ghost use Rattle.hybrid_rle.specs.Borrowed.{stretch};
 ghost use Rattle.holders.specs.Counts.{below, bits-in, bits-of};
-
 use hybrid_rle::runs::Run;
 use hybrid_rle::runs::next_run;
 use hybrid_rle::unpack::unpacked;

@@ -9,7 +9,6 @@ ghost use Rattle.hybrid_rle.specs.Cursor.{to-come};
 ghost use Rattle.hybrid_rle.specs.Rows.{flat, bits};
 ghost use Rattle.values.specs.Values.{weights};
 ghost use Rattle.holders.specs.Judge.{needed};
-
 use crate::cursor::Cursor;
 use bitmap::utils::get_bit;
 use hybrid_rle::piece::rows_in;
@@ -54,14 +53,12 @@ fn present_in(piece: Piece<'_>) -> usize
     ensures { λ r. ⌜ r ≡ needed (rows (piece .entry)) ⌝ }
 {
     match piece {
-        Piece::Bitmap { bytes, offset, length } => ones_from(bytes, offset, length),
-        Piece::Repeated { is_set, length } => {
-            if is_set {
-                length
-            } else {
-                0
-            }
-        }
+        Piece::Bitmap {
+            bytes,
+            offset,
+            length,
+        } => ones_from(bytes, offset, length),
+        Piece::Repeated { is_set, length } => { if is_set { length } else { 0 } }
     }
 }
 

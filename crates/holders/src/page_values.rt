@@ -3,7 +3,6 @@ ghost use mathlib.Core.Bool.{true};
 ghost use Rattle.std.specs.Options.{isSome};
 ghost use Rattle.holders.specs.Judge.{form-of};
 ghost use Rattle.holders.specs.Left.{values-left};
-
 use crate::types::Values;
 
 mod go;

@@ -6,7 +6,6 @@ ghost use Rattle.hybrid_rle.specs.Rows.{bits};
 ghost use Rattle.hybrid_rle.specs.Borrowed.{stretch};
 ghost use Rattle.holders.specs.Judge.{needed};
 ghost use Rattle.holders.specs.Counts.{tallied, run-tally, bits-in, bits-of};
-
 use hybrid_rle::header::Broken;
 use hybrid_rle::runs::Run;
 use hybrid_rle::runs::next_run;

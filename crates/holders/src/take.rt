@@ -6,7 +6,6 @@ ghost use Rattle.holders.specs.Judge as judge;
 ghost use Rattle.holders.specs.declared.types.Form.the-variants.{Bits};
 ghost use Rattle.holders.specs.Entries.{raw-bit};
 ghost use Rattle.holders.specs.Left.{plain-left, values-left};
-
 use crate::arrays::counted;
 use crate::entry::entry_bytes;
 use crate::types::Form;
@@ -43,7 +42,10 @@ pub(crate) fn next_value<'a>(form: Form, n: usize, values: &mut Values<'a>) -> &
         Values::Coded { dict, indices } => {
             let mut after = indices;
             let i = after.next();
-            *values = Values::Coded { dict, indices: after };
+            *values = Values::Coded {
+                dict,
+                indices: after,
+            };
             entry_bytes(form, dict, i as usize)
         }
     }

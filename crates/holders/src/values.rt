@@ -6,7 +6,6 @@ ghost use Rattle.holders.specs.Judge as judge;
 ghost use Rattle.holders.specs.Left.{held-entries, dict-fine, dict-entries};
 ghost use Rattle.holders.specs.Shapes.{left-in, sure, headed, width-in};
 ghost use Rattle.faults.specs.declared.types.Cause.the-variants.{Values as values-cause};
-
 use crate::arrays::arrays_fit;
 use crate::checks::bits_fit;
 use crate::checks::fixed_fits;
@@ -47,7 +46,11 @@ fn plain<'a>(form: Form, optional: bool, n: usize, bytes: &'a [u8]) -> Result<Va
     requires { ⌜ n ≤ 1048576 ⌝ }
     ensures { λ r. ⌜ left-in form n r ≡ sure (judge.or-else values-cause (judge.plain form optional n (now (bytes .entry)))) ⌝ }
 {
-    if plain_fits(form, optional, n, bytes) { Ok(Values::Plain { bytes, at: 0 }) } else { Err(Cause::Values) }
+    if plain_fits(form, optional, n, bytes) {
+        Ok(Values::Plain { bytes, at: 0 })
+    } else {
+        Err(Cause::Values)
+    }
 }
 
 // The width of indices and the bytes after it.
@@ -75,11 +78,25 @@ fn coded<'a>(form: Form, dict: Dict<'a>, n: usize, bytes: &'a [u8]) -> Result<Va
     if !indices_below(rest, w, n, dict.entries) {
         return Err(Cause::Index);
     }
-    Ok(Values::Coded { dict, indices: Indices { w, current: Numbers::Nothing, rest, left: n } })
+    Ok(Values::Coded {
+        dict,
+        indices: Indices {
+            w,
+            current: Numbers::Nothing,
+            rest,
+            left: n,
+        },
+    })
 }
 
 // Faults 9 and 10.
-pub(crate) fn checked<'a>(form: Form, optional: bool, dict: Option<Dict<'a>>, n: usize, bytes: &'a [u8]) -> Result<Values<'a>, Cause>
+pub(crate) fn checked<'a>(
+    form: Form,
+    optional: bool,
+    dict: Option<Dict<'a>>,
+    n: usize,
+    bytes: &'a [u8],
+) -> Result<Values<'a>, Cause>
     requires { ⌜ dict-fine form dict ≡ true ⌝ ∗ ⌜ n ≤ 1048576 ⌝ }
     ensures { λ r. ⌜ left-in form n r ≡ sure (judge.values form optional (held-entries form (dict .entry)) n (now (bytes .entry))) ⌝ }
 {

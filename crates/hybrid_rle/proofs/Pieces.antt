@@ -91,13 +91,14 @@ Roomy (Err e) = Unit {0}
 roomy-run-of : (bs : List ℕ) (r : Read) → Roomy (run-of 1 bs r)
 roomy-run-of bs (Err e) = tt
 roomy-run-of bs (Ok p) =
-    elim (eqb (p .0 % 2) 1) as (λ t. Roomy (cond t (cut (p .0 / 2 * 1) (λ xs. packed xs (p .0 / 2 * 8)) (drop (p .1) bs)) (cut ((1 + 7) / 8) (λ xs. repeated (little xs) (p .0 / 2)) (drop (p .1) bs))))
-    [ true ↦ go (leb (p .0 / 2 * 1) (length (drop (p .1) bs))) refl
-    | false ↦ elim (leb 1 (length (drop (p .1) bs))) as (λ t. Roomy (cond t (Ok (repeated (little (take 1 (drop (p .1) bs))) (p .0 / 2), drop 1 (drop (p .1) bs))) (Err Short))) [ true ↦ tt | false ↦ tt ] ]
+    elim (eqb (p .0 % 2) 1) as (λ t. Roomy (cond t (cut (p .0 / 2 * 1) (λ xs. packed xs (p .0 / 2 * 8)) (drop (p .1) bs)) (cut ((1 + 7) / 8) (λ xs. repeated (little xs) (p .0 / 2)) (drop (p .1) bs)))) [
+      | true ↦ go (leb (p .0 / 2 * 1) (length (drop (p .1) bs))) refl
+      | false ↦ elim (leb 1 (length (drop (p .1) bs))) as (λ t. Roomy (cond t (Ok (repeated (little (take 1 (drop (p .1) bs))) (p .0 / 2), drop 1 (drop (p .1) bs))) (Err Short))) [ true ↦ tt | false ↦ tt ]
+    ]
   where
-  go : (t : Bool) → leb (p .0 / 2 * 1) (length (drop (p .1) bs)) ≡ t → Roomy (cond t (Ok (packed (take (p .0 / 2 * 1) (drop (p .1) bs)) (p .0 / 2 * 8), drop (p .0 / 2 * 1) (drop (p .1) bs))) (Err Short))
-  go true e = simp length-take (omega (arith, leb-true _ _ e))
-  go false e = tt
+    go : (t : Bool) → leb (p .0 / 2 * 1) (length (drop (p .1) bs)) ≡ t → Roomy (cond t (Ok (packed (take (p .0 / 2 * 1) (drop (p .1) bs)) (p .0 / 2 * 8), drop (p .0 / 2 * 1) (drop (p .1) bs))) (Err Short))
+    go true e = simp length-take (omega (arith, leb-true _ _ e))
+    go false e = tt
 
 pub packed-room : (bs xs rest : List ℕ) (m : ℕ) → Ok (packed xs m, rest) ≡ run 1 bs → m ≤ 8 * length xs
 packed-room bs xs rest m e = let r = roomy-run-of bs (header bs) in rw (sym e) at r
@@ -138,10 +139,11 @@ pub piece-beyond : (k : ℕ) (all : List (List Bool)) → taken (piece k all) ++
 piece-beyond k [] = refl
 piece-beyond k (xs ∷ xss) = ⊎-elim short long (leb-tells (suc k) (length xs))
   where
-  short : ((leb (suc k) (length xs) ≡ true) × (suc k ≤ length xs)) → take k xs ++ joined (λ ys. ys) (cond (leb (suc k) (length xs)) (drop k xs ∷ xss) xss) ≡ xs ++ joined (λ ys. ys) xss
-  short p = rw (p .0) (sym (append-assoc (take k xs) (drop k xs) (joined (λ ys. ys) xss)) ∙ ap (λ ys. ys ++ joined (λ zs. zs) xss) (take-append-drop k xs))
-  long : ((leb (suc k) (length xs) ≡ false) × (length xs < suc k)) → take k xs ++ joined (λ ys. ys) (cond (leb (suc k) (length xs)) (drop k xs ∷ xss) xss) ≡ xs ++ joined (λ ys. ys) xss
-  long p = let l : length xs ≤ k = omega arith in rw (p .0, take-all k xs l) refl
+    short : ((leb (suc k) (length xs) ≡ true) × (suc k ≤ length xs)) → take k xs ++ joined (λ ys. ys) (cond (leb (suc k) (length xs)) (drop k xs ∷ xss) xss) ≡ xs ++ joined (λ ys. ys) xss
+    short p = rw (p .0) (sym (append-assoc (take k xs) (drop k xs) (joined (λ ys. ys) xss)) ∙ ap (λ ys. ys ++ joined (λ zs. zs) xss) (take-append-drop k xs))
+
+    long : ((leb (suc k) (length xs) ≡ false) × (length xs < suc k)) → take k xs ++ joined (λ ys. ys) (cond (leb (suc k) (length xs)) (drop k xs ∷ xss) xss) ≡ xs ++ joined (λ ys. ys) xss
+    long p = let l : length xs ≤ k = omega arith in rw (p .0, take-all k xs l) refl
 
 pub onward-is : (k : ℕ) (all : List (List Bool)) (r : Option (List Bool)) (xss : List (List Bool)) → r ≡ piece k all → xss ≡ beyond k all → taken r ++ flat xss ≡ flat all
 onward-is k all r xss e f = rw (e, f) (piece-beyond k all)
@@ -167,14 +169,17 @@ module _ (k : ℕ) (xs : List Bool) (xss : List (List Bool)) where
   piece-falls [] h e b = absurd (grind arith)
   piece-falls (ys ∷ yss) h e b = ⊎-elim short long (leb-tells (suc k) (length ys))
     where
-    f : xs ≡ take k ys
-    f = cc
-    l : length xs ≡ min k (length ys)
-    l = ap length f ∙ length-take k ys
-    short : ((leb (suc k) (length ys) ≡ true) × (suc k ≤ length ys)) → (k - length xs) + length xss < k + suc (length yss)
-    short p = let q : beyond k (ys ∷ yss) ≡ drop k ys ∷ yss = rw (p .0) refl in let g : length xss ≡ suc (length yss) = ap length (b ∙ q) in omega (arith, l)
-    long : ((leb (suc k) (length ys) ≡ false) × (length ys < suc k)) → (k - length xs) + length xss < k + suc (length yss)
-    long p = let q : beyond k (ys ∷ yss) ≡ yss = rw (p .0) refl in let g : length xss ≡ length yss = ap length (b ∙ q) in omega (arith, l)
+      f : xs ≡ take k ys
+      f = cc
+
+      l : length xs ≡ min k (length ys)
+      l = ap length f ∙ length-take k ys
+
+      short : ((leb (suc k) (length ys) ≡ true) × (suc k ≤ length ys)) → (k - length xs) + length xss < k + suc (length yss)
+      short p = let q : beyond k (ys ∷ yss) ≡ drop k ys ∷ yss = rw (p .0) refl in let g : length xss ≡ suc (length yss) = ap length (b ∙ q) in omega (arith, l)
+
+      long : ((leb (suc k) (length ys) ≡ false) × (length ys < suc k)) → (k - length xs) + length xss < k + suc (length yss)
+      long p = let q : beyond k (ys ∷ yss) ≡ yss = rw (p .0) refl in let g : length xss ≡ length yss = ap length (b ∙ q) in omega (arith, l)
 
 pub drop-on : (xs fs all F : List Bool) (m : ℕ) → xs ++ fs ≡ all → all ≡ drop m F → m ≤ length F → (fs ≡ drop (m + length xs) F) × (m + length xs ≤ length F)
 drop-on xs fs all F m e g h =

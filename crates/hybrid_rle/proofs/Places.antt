@@ -48,19 +48,20 @@ pub bit-is : (bs : List ℕ) (at : ℕ) → Bytes bs → bit bs at ≡ (little b
 bit-is [] at h = rw (zero-div, zero-div) refl
 bit-is (b ∷ bs) at h = ⊎-elim (far (bit-is bs (at - 8) (λ i. h (suc i)))) near (leb-tells 8 at)
   where
-  near : ((leb 8 at ≡ false) × (at < 8)) → bit (b ∷ bs) at ≡ (little (b ∷ bs) / 2 ^ at) % 2
-  near p =
-      let q : at / 8 ≡ 0 = omega arith in
-      let r : at % 8 ≡ at = omega arith in
-      rw (q, r) (low-bit b (little bs) at (h 0) (p .1))
-  far : bit bs (at - 8) ≡ (little bs / 2 ^ (at - 8)) % 2 → ((leb 8 at ≡ true) × (8 ≤ at)) → bit (b ∷ bs) at ≡ (little (b ∷ bs) / 2 ^ at) % 2
-  far i p =
-      let e : at ≡ 8 + (at - 8) = omega arith in
-      let q : at / 8 ≡ suc ((at - 8) / 8) = omega arith in
-      let r : at % 8 ≡ (at - 8) % 8 = omega arith in
-      let s = shift-one b (little bs) (at - 8) (h 0) in
-      let t : (b + 256 * little bs) / 2 ^ at ≡ little bs / 2 ^ (at - 8) = ap (λ n. (b + 256 * little bs) / 2 ^ n) e ∙ s in
-      rw (q, r, t) i
+    near : ((leb 8 at ≡ false) × (at < 8)) → bit (b ∷ bs) at ≡ (little (b ∷ bs) / 2 ^ at) % 2
+    near p =
+        let q : at / 8 ≡ 0 = omega arith in
+        let r : at % 8 ≡ at = omega arith in
+        rw (q, r) (low-bit b (little bs) at (h 0) (p .1))
+
+    far : bit bs (at - 8) ≡ (little bs / 2 ^ (at - 8)) % 2 → ((leb 8 at ≡ true) × (8 ≤ at)) → bit (b ∷ bs) at ≡ (little (b ∷ bs) / 2 ^ at) % 2
+    far i p =
+        let e : at ≡ 8 + (at - 8) = omega arith in
+        let q : at / 8 ≡ suc ((at - 8) / 8) = omega arith in
+        let r : at % 8 ≡ (at - 8) % 8 = omega arith in
+        let s = shift-one b (little bs) (at - 8) (h 0) in
+        let t : (b + 256 * little bs) / 2 ^ at ≡ little bs / 2 ^ (at - 8) = ap (λ n. (b + 256 * little bs) / 2 ^ n) e ∙ s in
+        rw (q, r, t) i
 
 -- w bits from bit `at` on
 pub field-is : (w : ℕ) (bs : List ℕ) (at : ℕ) → Bytes bs → field w bs at ≡ (little bs / 2 ^ at) % 2 ^ w

@@ -55,9 +55,10 @@ shorter-run-of : (w : ℕ) (bs : List ℕ) (r : Read) → Within (length bs) r �
 shorter-run-of w bs (Err e) h = tt
 shorter-run-of w bs (Ok p) h =
     let l : length (drop (p .1) bs) < length bs = simp length-drop (omega arith) in
-    elim (eqb (p .0 % 2) 1) as (λ t. Shorter (length bs) (cond t (cut (p .0 / 2 * w) (λ xs. packed xs (p .0 / 2 * 8)) (drop (p .1) bs)) (cut ((w + 7) / 8) (λ xs. repeated (little xs) (p .0 / 2)) (drop (p .1) bs))))
-    [ true ↦ shorter-cut (length bs) (p .0 / 2 * w) (λ xs. packed xs (p .0 / 2 * 8)) (drop (p .1) bs) l
-    | false ↦ shorter-cut (length bs) ((w + 7) / 8) (λ xs. repeated (little xs) (p .0 / 2)) (drop (p .1) bs) l ]
+    elim (eqb (p .0 % 2) 1) as (λ t. Shorter (length bs) (cond t (cut (p .0 / 2 * w) (λ xs. packed xs (p .0 / 2 * 8)) (drop (p .1) bs)) (cut ((w + 7) / 8) (λ xs. repeated (little xs) (p .0 / 2)) (drop (p .1) bs)))) [
+      | true ↦ shorter-cut (length bs) (p .0 / 2 * w) (λ xs. packed xs (p .0 / 2 * 8)) (drop (p .1) bs) l
+      | false ↦ shorter-cut (length bs) ((w + 7) / 8) (λ xs. repeated (little xs) (p .0 / 2)) (drop (p .1) bs) l
+    ]
 
 pub run-shorter : (w : ℕ) (bs : List ℕ) (p : Stretch × List ℕ) → run w bs ≡ Ok p → length (p .1) < length bs
 run-shorter w bs p e = let s = shorter-run-of w bs (header bs) (within-header bs) in rw e at s

@@ -27,7 +27,11 @@ pub fn read_header(bytes: &[u8]) -> Result<(u32, usize), Broken>
         let b = bytes[at];
         value += ((b & 127) as u64) << (7 * at);
         if b < 128 {
-            return if value < 1 << 32 { Ok((value as u32, at + 1)) } else { Err(Broken::Large) };
+            return if value < 1 << 32 {
+                Ok((value as u32, at + 1))
+            } else {
+                Err(Broken::Large)
+            };
         }
     }
     Err(Broken::Long)

@@ -1,7 +1,6 @@
 ghost use mathlib.Core.Path.{_≡_};
 ghost use lib.ListN.{length};
 ghost use Rattle.hybrid_rle.specs.Held.{rows};
-
 use crate::validity::Piece;
 
 // How many rows a piece has.

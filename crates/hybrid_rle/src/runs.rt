@@ -5,7 +5,6 @@ ghost use lib.ListN.{length, getD, take, drop};
 ghost use Rattle.hybrid_rle.specs.Runs.{run, run-at, runs, sound, sound-at};
 ghost use Rattle.values.specs.Little.{little};
 ghost use Rattle.hybrid_rle.specs.Borrowed.{meant};
-
 use crate::header::Broken;
 use crate::header::read_header;
 
@@ -26,7 +25,10 @@ fn little_end(bytes: &[u8]) -> u32
         [a] => *a as u32,
         [a, b] => *a as u32 + 256 * (*b as u32),
         [a, b, c] => *a as u32 + 256 * (*b as u32) + 65536 * (*c as u32),
-        [a, b, c, d, ..] => *a as u32 + 256 * (*b as u32) + 65536 * (*c as u32) + 16777216 * (*d as u32),
+        [a, b, c, d, ..] => *a as u32
+            + 256 * (*b as u32)
+            + 65536 * (*c as u32)
+            + 16777216 * (*d as u32),
     }
 }
 
@@ -53,7 +55,13 @@ fn read_run<'a>(bytes: &'a [u8], w: u8) -> Result<(Run<'a>, &'a [u8]), Broken>
         if size > body.len() {
             return Err(Broken::Short);
         }
-        Ok((Run::Bitmap { bytes: &body[0..size], length: length * 8 }, &body[size..]))
+        Ok((
+            Run::Bitmap {
+                bytes: &body[0..size],
+                length: length * 8,
+            },
+            &body[size..],
+        ))
     } else {
         let size = (w as usize + 7) / 8;
         if size > body.len() {

@@ -10,16 +10,30 @@ mod step;
 // The run that rows are taken from.
 #[derive(Clone, Copy)]
 pub enum Current<'a> {
-    Bitmap { bytes: &'a [u8], offset: usize, length: usize },
-    Repeated { is_set: bool, length: usize },
+    Bitmap {
+        bytes: &'a [u8],
+        offset: usize,
+        length: usize,
+    },
+    Repeated {
+        is_set: bool,
+        length: usize,
+    },
     Nothing,
 }
 
 // Rows that come next.
 #[derive(Clone, Copy)]
 pub enum Piece<'a> {
-    Bitmap { bytes: &'a [u8], offset: usize, length: usize },
-    Repeated { is_set: bool, length: usize },
+    Bitmap {
+        bytes: &'a [u8],
+        offset: usize,
+        length: usize,
+    },
+    Repeated {
+        is_set: bool,
+        length: usize,
+    },
 }
 
 // The rows of a page that are still to come: those of the current run, and `left` more from the runs in `rest`.

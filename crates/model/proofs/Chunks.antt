@@ -67,7 +67,7 @@ module _ (column : Column) (u : Setup) where
       ⊎-elim
       (λ full. full-cons (u .size) rs (chunks es) (ap length (r .1 .1) ∙ counts column u s k ∙ full) (full-run es (r .0) t next (r .2)))
       (λ done. full-one (u .size) rs (chunks es)
-        (no-chunks es (r .0) t (subst Spent (sym (r .1 .2)) (record { done = done; empty = refl; waits = apart refl })) next (r .2)))
+      (no-chunks es (r .0) t (subst Spent (sym (r .1 .2)) (record { done = done; empty = refl; waits = apart refl })) next (r .2)))
       (placed column u s Ready k (r .1 .0))
   full-run (Row-at i o ∷ es) s t k r = full-run es (r .0) t (kept-step column u s (Row-at i o) (r .0) k (r .1)) (r .2)
   full-run (Close h g ∷ es) s t k r = full-run es (r .0) t (kept-step column u s (Close h g) (r .0) k (r .1)) (r .2)

@@ -57,7 +57,7 @@ module _ (column : Column) (u : Setup) where
   length-then s e = simp (length-append, length-stands, length-take) (omega arith)
 
   bits-then : (s : Read) → length (s .bits) ≡ bits-due (column .optional) (s .pending)
-    → length (s .bits ++ bits-for (column .optional) (take (fitting u s) (s .unused))) ≡ bits-due (column .optional) (s .pending + fitting u s)
+      → length (s .bits ++ bits-for (column .optional) (take (fitting u s) (s .unused))) ≡ bits-due (column .optional) (s .pending + fitting u s)
   bits-then s e =
       let o = column .optional in
       let xs = take (fitting u s) (s .unused) in
@@ -67,7 +67,7 @@ module _ (column : Column) (u : Setup) where
 
   -- the rows pending after an append
   pub chunk-then : (s : Read) → Kept column u s
-    → chunk (record { phase = s .phase; remaining = 0; pending = 0; handed = 0; counted = 0; unused = []; held = None; source = []; values = s .values ++ stands (u .blank) (take (fitting u s) (s .unused)); bits = s .bits ++ bits-for (column .optional) (take (fitting u s) (s .unused)) })
+      → chunk (record { phase = s .phase; remaining = 0; pending = 0; handed = 0; counted = 0; unused = []; held = None; source = []; values = s .values ++ stands (u .blank) (take (fitting u s) (s .unused)); bits = s .bits ++ bits-for (column .optional) (take (fitting u s) (s .unused)) })
       ≡ chunk s ++ take (fitting u s) (s .unused)
   chunk-then s k =
       rows-appended (column .optional) (u .blank) (s .values) (s .bits) (take (fitting u s) (s .unused))

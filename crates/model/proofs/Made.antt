@@ -49,7 +49,7 @@ module _ (column : Column) (u : Setup) where
       cond-both (ltb (u .bytes) (bytes-then column u s)) _ _ (Lands s)
       (λ e. small-space r p (ltb-true _ _ e))
       (λ e. cond-both (filled column u s) _ _ (Lands s)
-        (λ f. fills r p (ltb-false _ _ e) (fills-from s f)) (λ f. uses-up r p (ltb-false _ _ e) (short-from s f)))
+      (λ f. fills r p (ltb-false _ _ e) (fills-from s f)) (λ f. uses-up r p (ltb-false _ _ e) (short-from s f)))
 
   pub matches-from : (s : Read) → matching column u s ≡ true → Matches column s
   matches-from s e = let p = and-parts _ _ e in record { rows = eqb-true _ _ (p .0); bits = eqb-true _ _ (p .1) }
@@ -67,18 +67,18 @@ module _ (column : Column) (u : Setup) where
   next-lands s =
       cond-both (matching column u s) _ _ (Lands s)
       (λ e. cond-both (ltb (capacity (column .optional) u) (u .size)) _ _ (Lands s)
-        (λ f. small-room (matches-from s e) (ltb-true _ _ f))
-        (λ f. let r : Right column u s = record { matches = matches-from s e; room = ltb-false _ _ f } in
-          cond-both (eqb (s .remaining) 0) _ _ (Lands s)
-          (λ z. at-limit r (eqb-true _ _ z))
-          (λ z. let w : s .remaining ≡ 0 → ⊥ = eqb-false _ _ z in page-lands s r (omega arith) (s .unused) refl)))
+      (λ f. small-room (matches-from s e) (ltb-true _ _ f))
+      (λ f. let r : Right column u s = record { matches = matches-from s e; room = ltb-false _ _ f } in
+      cond-both (eqb (s .remaining) 0) _ _ (Lands s)
+      (λ z. at-limit r (eqb-true _ _ z))
+      (λ z. let w : s .remaining ≡ 0 → ⊥ = eqb-false _ _ z in page-lands s r (omega arith) (s .unused) refl)))
       (λ e. wrong-rows (unlike-from s e))
 
   abbrev Here : Read → Option (Event × Read) → (Read → List Event × Read) → Type 0
   Here s o f = Run column u s (noted column u o s f .0) (noted column u o s f .1)
 
   performed : (s : Read) (f : Read → List Event × Read) → ((m : Read) → Run column u m (f m .0) (f m .1))
-    → (p : Phase) → s .phase ≡ p → (c : Call) → Here s (perform column u s p c) f
+      → (p : Phase) → s .phase ≡ p → (c : Call) → Here s (perform column u s p c) f
   performed s f r Filling e To-next = (next-of column u s .1, (e, next-lands s), r (next-of column u s .1))
   performed s f r Filling e To-take = r s
   performed s f r Filling e (To-row i) = (s, (inl e, refl, refl), r s)

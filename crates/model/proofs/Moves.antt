@@ -73,7 +73,7 @@ module _ (column : Column) (u : Setup) where
 
   -- only the phase changes
   turns : (s : Read) (e : Event) (p : Phase) → Kept column u s → handed-out (e ∷ []) ≡ []
-    → tally unrefused (e ∷ []) + over (s .phase) ≤ tally is-chunk (e ∷ []) + over p → Goes s e (in-phase p s)
+      → tally unrefused (e ∷ []) + over (s .phase) ≤ tally is-chunk (e ∷ []) + over p → Goes s e (in-phase p s)
   turns s e p k none w = record {
     rows = [];
     out = append-nil _ ∙ ap (λ xs. xs ++ chunk s) (sym none);
@@ -87,7 +87,7 @@ module _ (column : Column) (u : Setup) where
 
   -- k rows of the held page go into the chunk
   appends : (s : Read) (a : Answer) (p : Phase) → Kept column u s → s .phase ≡ Filling → over p ≡ 0
-    → unrefused a + owed (drop (fitting u s) (s .unused)) ≤ owed (s .unused) + is-chunk a → Goes s (Next a) (appended column u (fitting u s) p s)
+      → unrefused a + owed (drop (fitting u s) (s .unused)) ≤ owed (s .unused) + is-chunk a → Goes s (Next a) (appended column u (fitting u s) p s)
   appends s a p k e o w = record {
     rows = take (fitting u s) (s .unused);
     out = sym (chunk-then column u s k);
@@ -101,7 +101,7 @@ module _ (column : Column) (u : Setup) where
 
   -- a delivery is taken in
   takes-in : (s : Read) (d : Delivered) (ds : List Delivered) → Kept column u s → s .phase ≡ Filling → s .unused ≡ [] → s .source ≡ d ∷ ds
-    → Goes s (Next (told (verdict column (s .held) d) (one-more (s .counted)))) (delivered (verdict column (s .held) d) ds s)
+      → Goes s (Next (told (verdict column (s .held) d) (one-more (s .counted)))) (delivered (verdict column (s .held) d) ds s)
   takes-in s d ds k e none q =
       let v = verdict column (s .held) d in
       let fewer : length (s .source) ≡ length ds + 1 = ap length q ∙ omega arith in

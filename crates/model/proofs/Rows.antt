@@ -62,7 +62,7 @@ no-bits (b ∷ bs) e = absurd (omega arith)
 
 -- rows appended to a chunk are its rows after those that it had
 pub rows-appended : (o : Bool) (b : Value) (vs : List Value) (bs : List Bool) (rs : List Row)
-  → length bs ≡ bits-due o (length vs) → (o ≡ false → All-present rs) → rows-in (vs ++ stands b rs) (bs ++ bits-for o rs) ≡ rows-in vs bs ++ rs
+    → length bs ≡ bits-due o (length vs) → (o ≡ false → All-present rs) → rows-in (vs ++ stands b rs) (bs ++ bits-for o rs) ≡ rows-in vs bs ++ rs
 rows-appended true b vs bs rs e h = joined-rows vs (stands b rs) bs (validity rs) e ∙ ap (λ xs. rows-in vs bs ++ xs) (own-rows b rs)
 rows-appended false b vs bs rs e h =
     let none : bs ≡ [] = no-bits bs e in

@@ -29,7 +29,7 @@ module _ (column : Column) (u : Setup) where
   made-one s c cs = noted-leaves (perform column u s (s .phase) c) s (λ m. made column u m cs)
 
   kept-step : (o : Option (Event × Read)) (s : Read) (X : Read → List Said) (f : Read → List Event × Read)
-    → ((m : Read) → kept (X m) ≡ map said-of (f m .0)) → kept (said o ∷ X (left-by o s)) ≡ map said-of (noted column u o s f .0)
+      → ((m : Read) → kept (X m) ≡ map said-of (f m .0)) → kept (said o ∷ X (left-by o s)) ≡ map said-of (noted column u o s f .0)
   kept-step None s X f h = h s
   kept-step (Some o) s X f h = kept-one (o .0) (X (o .1)) ∙ ap (λ ds. said-of (o .0) ∷ ds) (h (o .1))
 
@@ -38,7 +38,7 @@ module _ (column : Column) (u : Setup) where
   answers-events (c ∷ cs) s = kept-step (perform column u s (s .phase) c) s (λ m. answers column u m cs) (λ m. made column u m cs) (answers-events cs)
 
   pub driven : (limit : ℕ) (ds : List Delivered) (cs : List Call) (xs : List Said) (t : Read)
-    → xs ≡ answers column u (fresh limit ds) cs → t ≡ made column u (fresh limit ds) cs .1 → Driven column u limit ds cs xs t
+      → xs ≡ answers column u (fresh limit ds) cs → t ≡ made column u (fresh limit ds) cs .1 → Driven column u limit ds cs xs t
   driven limit ds cs xs t a e =
       let es = events column u limit ds cs in
       let run = made-runs column u cs (fresh limit ds) in

@@ -39,8 +39,8 @@ present-row text x true v e = ap (λ w. Some (value w)) e
 present-row text x false v e = refl
 
 after : (front : List ℕ) (v : Value) (vs : List Value) (bs : List Bool) (i : ℕ)
-  → ((f : List ℕ) → row-asked (f ++ all-bytes vs) (asked (seen-at (length f) vs i) (bit-at bs i)) ≡ row-at (rows-in vs bs) i)
-  → row-asked (front ++ all-bytes (v ∷ vs)) (asked (seen-at (length front + weight v) vs i) (bit-at bs i)) ≡ row-at (rows-in vs bs) i
+    → ((f : List ℕ) → row-asked (f ++ all-bytes vs) (asked (seen-at (length f) vs i) (bit-at bs i)) ≡ row-at (rows-in vs bs) i)
+    → row-asked (front ++ all-bytes (v ∷ vs)) (asked (seen-at (length front + weight v) vs i) (bit-at bs i)) ≡ row-at (rows-in vs bs) i
 after front v vs bs i rest =
     let text : front ++ all-bytes (v ∷ vs) ≡ (front ++ own-bytes v) ++ all-bytes vs = ap (λ xs. front ++ xs) (own-first v vs) ∙ sym (append-assoc front (own-bytes v) (all-bytes vs)) in
     let place : length front + weight v ≡ length (front ++ own-bytes v) = sym (length-append front (own-bytes v) ∙ ap (λ n. length front + n) (own-length v)) in

@@ -103,9 +103,9 @@ module _ (column : Column) where
         ⊎-elim
         (λ z. let n : limit - t .remaining ≡ limit = omega arith in bare ∙ in-order ∙ ap (λ i. take i (sound-rows column None ds)) n)
         (λ z.
-            let none : future column t ≡ [] = ap (λ xs. xs ++ sound-rows column (t .held) (t .source)) (z .0) ∙ ap (sound-rows column (t .held)) (z .1) in
-            let all : sound-rows column None ds ≡ m .rows = m .from ∙ ap (λ xs. m .rows ++ xs) none ∙ append-nil (m .rows) in
-            bare ∙ sym (m .out) ∙ sym all ∙ sym (take-all (limit) (sound-rows column None ds) (omega (arith, ap length all, m .left))))
+        let none : future column t ≡ [] = ap (λ xs. xs ++ sound-rows column (t .held) (t .source)) (z .0) ∙ ap (sound-rows column (t .held)) (z .1) in
+        let all : sound-rows column None ds ≡ m .rows = m .from ∙ ap (λ xs. m .rows ++ xs) none ∙ append-nil (m .rows) in
+        bare ∙ sym (m .out) ∙ sym all ∙ sym (take-all (limit) (sound-rows column None ds) (omega (arith, ap length all, m .left))))
         (end .1)
 
     accounted : Accounts column u limit ds es t
@@ -131,10 +131,11 @@ module _ (column : Column) where
   pub rows-extend : Rows-extend column
   rows-extend u v m n ds more es fs s t le r o q p =
       let after = sound-begins None ds more in
-      let begins = take-begins m n (sound-rows column None ds) (after .0) le in
-      (begins .0,
+      let begins = take-begins m n (sound-rows column None ds) (after .0) le in (
+        begins .0,
         all-handed v n (ds ++ more) fs t q p ∙ ap (take n) (after .1) ∙ begins .1
-        ∙ ap (λ xs. xs ++ begins .0) (sym (all-handed u m ds es s r o)))
+            ∙ ap (λ xs. xs ++ begins .0) (sym (all-handed u m ds es s r o)),
+      )
 
   pub nexts-bounded : Nexts-bounded column
   nexts-bounded = bounded

@@ -48,7 +48,7 @@ module _ (column : Column) (u : Setup) where
   next-of s =
       cond (matching s)
       (cond (ltb (capacity (column .optional) u) (u .size)) (refused cause.ChunkMemory s)
-        (cond (eqb (s .remaining) 0) (End, in-phase Ended s) (from-page s (s .unused))))
+      (cond (eqb (s .remaining) 0) (End, in-phase Ended s) (from-page s (s .unused))))
       (refused cause.ChunkRows s)
 
   -- a call and what it leaves, or nothing where the phase does not allow it

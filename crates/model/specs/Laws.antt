@@ -107,17 +107,17 @@ module _ (column : Column) where
   -- with more deliveries and no lower limit, at any chunk sizes, the rows go on
   abbrev pub Rows-extend : Type 0
   Rows-extend =
-    (u v : Setup) (m n : ℕ) (ds more : List Delivered) (es fs : List Event) (s t : Read)
-    → m ≤ n
-    → Run column u (fresh m ds) es s → Over (s .phase)
-    → Run column v (fresh n (ds ++ more)) fs t → Over (t .phase)
-    → (rest : List Row) × (handed-out fs ≡ handed-out es ++ rest)
+      (u v : Setup) (m n : ℕ) (ds more : List Delivered) (es fs : List Event) (s t : Read)
+      → m ≤ n
+      → Run column u (fresh m ds) es s → Over (s .phase)
+      → Run column v (fresh n (ds ++ more)) fs t → Over (t .phase)
+      → (rest : List Row) × (handed-out fs ≡ handed-out es ++ rest)
 
   -- how many calls of next there can be
   abbrev pub Nexts-bounded : Type 0
   Nexts-bounded =
-    (u : Setup) (limit : ℕ) (ds : List Delivered) (es : List Event) (t : Read) → Run column u (fresh limit ds) es t
-    → tally unrefused es ≤ 1 + tally is-chunk es + 2 * given ds t
+      (u : Setup) (limit : ℕ) (ds : List Delivered) (es : List Event) (t : Read) → Run column u (fresh limit ds) es t
+      → tally unrefused es ≤ 1 + tally is-chunk es + 2 * given ds t
 
   -- the laws of whole runs
   pub record Whole-read : Type 0 where

@@ -180,7 +180,7 @@ module _ (column : Column) where
     fills : Right u s → Page-left s → bytes-then u s ≤ u .bytes → Fills u s → Steps u s Chunk (appended u (fitting u s) Ready s)
     uses-up : Right u s → Page-left s → bytes-then u s ≤ u .bytes → (Fills u s → ⊥) → Steps u s More (appended u (fitting u s) Filling s)
     gives : Right u s → Page-used s → (d : Delivered) (ds : List Delivered) → s .source ≡ d ∷ ds
-      → Steps u s (told (verdict column (s .held) d) (one-more (s .counted))) (delivered (verdict column (s .held) d) ds s)
+        → Steps u s (told (verdict column (s .held) d) (one-more (s .counted))) (delivered (verdict column (s .held) d) ds s)
     last-chunk : Right u s → Page-used s → s .source ≡ [] → 0 < s .pending → Steps u s Chunk (in-phase Ready s)
     no-more : Right u s → Page-used s → s .source ≡ [] → s .pending ≡ 0 → Steps u s End (in-phase Ended s)
 

@@ -64,7 +64,7 @@ module _ (column : Column) (u : Setup) where
     pub accounts : Accounts column u limit ds (events limit ds cs) t
     pub bounded : tally unrefused (events limit ds cs) ≤ 1 + tally is-chunk (events limit ds cs) + 2 * given ds t
     pub extends : Over (t .phase) → (v : Setup) (n : ℕ) (more : List Delivered) (fs : List Event) (e : Read)
-      → limit ≤ n → Run column v (fresh n (ds ++ more)) fs e → Over (e .phase) → (rest : List Row) × (handed-out fs ≡ handed-out (events limit ds cs) ++ rest)
+        → limit ≤ n → Run column v (fresh n (ds ++ more)) fs e → Over (e .phase) → (rest : List Row) × (handed-out fs ≡ handed-out (events limit ds cs) ++ rest)
     -- what row answers is the row of that number
     pub seen : Rows-seen
     -- and every run is one of such a list

@@ -23,10 +23,10 @@ module _ (rows encoding : ℕ) (flag : Bool) (body : List ℕ) where
       let short : ltb (length (take (suc k) w)) 11 ≡ true = lt-ltb _ _ (simp length-take (omega arith)) in rw short
 
   page-late : (j : ℕ) → j < length body
-    → command (take (suc (suc (suc (suc (suc (suc (suc (suc (suc (suc (suc j))))))))))) w) ≡ broken 2
+      → command (take (suc (suc (suc (suc (suc (suc (suc (suc (suc (suc (suc j))))))))))) w) ≡ broken 2
   page-late j h =
       let long : ltb (length (take (suc (suc (suc (suc (suc (suc (suc (suc (suc (suc (suc j))))))))))) w)) 11 ≡ false
-          = le-ltb _ _ (omega arith) in
+      = le-ltb _ _ (omega arith) in
       let cut : ltb (length (take j body)) (length body) ≡ true = lt-ltb _ _ (simp length-take (omega arith)) in
       rw (long, from-bytes (length body), cut)
 
@@ -34,9 +34,9 @@ module _ (rows encoding : ℕ) (flag : Bool) (body : List ℕ) where
   page-cut k h l =
       ⊎-elim (page-early k h)
       (λ far.
-          let j = k - 11 in
-          let is : k ≡ suc (suc (suc (suc (suc (suc (suc (suc (suc (suc (suc j)))))))))) = omega arith in
-          rw is (page-late j (omega arith)))
+      let j = k - 11 in
+      let is : k ≡ suc (suc (suc (suc (suc (suc (suc (suc (suc (suc (suc j)))))))))) = omega arith in
+      rw is (page-late j (omega arith)))
       (cases-lt k 11)
 
 module _ (entries : ℕ) (body : List ℕ) where
@@ -51,7 +51,7 @@ module _ (entries : ℕ) (body : List ℕ) where
   dict-late : (j : ℕ) → j < length body → command (take (suc (suc (suc (suc (suc (suc (suc (suc (suc j))))))))) v) ≡ broken 2
   dict-late j h =
       let long : ltb (length (take (suc (suc (suc (suc (suc (suc (suc (suc (suc j))))))))) v)) 9 ≡ false
-          = le-ltb _ _ (omega arith) in
+      = le-ltb _ _ (omega arith) in
       let cut : ltb (length (take j body)) (length body) ≡ true = lt-ltb _ _ (simp length-take (omega arith)) in
       rw (long, from-bytes (length body), cut)
 
@@ -59,9 +59,9 @@ module _ (entries : ℕ) (body : List ℕ) where
   dict-cut k h l =
       ⊎-elim (dict-early k h)
       (λ far.
-          let j = k - 9 in
-          let is : k ≡ suc (suc (suc (suc (suc (suc (suc (suc (suc j)))))))) = omega arith in
-          rw is (dict-late j (omega arith)))
+      let j = k - 9 in
+      let is : k ≡ suc (suc (suc (suc (suc (suc (suc (suc (suc j)))))))) = omega arith in
+      rw is (dict-late j (omega arith)))
       (cases-lt k 9)
 
 one-fault : (bs : List ℕ) → 0 < length bs → command bs ≡ broken 2 → streamed bs ≡ fault 2 ∷ []

@@ -35,11 +35,11 @@ left-within : (b : ℕ) (bs : List ℕ) → Within (length bs) (command (b ∷ b
 left-within b bs =
     cond-both (eqb b 0x44) _ _ (Within (length bs))
     (λ _. cond-both (ltb (length (b ∷ bs)) 9) _ _ (Within (length bs)) (λ _. broken-within 2 _)
-        (λ _. dict-within (le32 (b ∷ bs) 1) (le32 (b ∷ bs) 5) (length bs) (drop 8 bs) (simp length-drop (omega arith))))
+    (λ _. dict-within (le32 (b ∷ bs) 1) (le32 (b ∷ bs) 5) (length bs) (drop 8 bs) (simp length-drop (omega arith))))
     (λ _. cond-both (eqb b 0x50) _ _ (Within (length bs))
-        (λ _. cond-both (ltb (length (b ∷ bs)) 11) _ _ (Within (length bs)) (λ _. broken-within 2 _)
-            (λ _. data-within (le32 (b ∷ bs) 1) (getD (b ∷ bs) 5 0) (getD (b ∷ bs) 6 0) (le32 (b ∷ bs) 7) (length bs) (drop 10 bs) (simp length-drop (omega arith))))
-        (λ _. broken-within 1 _))
+    (λ _. cond-both (ltb (length (b ∷ bs)) 11) _ _ (Within (length bs)) (λ _. broken-within 2 _)
+    (λ _. data-within (le32 (b ∷ bs) 1) (getD (b ∷ bs) 5 0) (getD (b ∷ bs) 6 0) (le32 (b ∷ bs) 7) (length bs) (drop 10 bs) (simp length-drop (omega arith))))
+    (λ _. broken-within 1 _))
 
 -- more turns than bytes change nothing
 commands-more : (n m : ℕ) (bs : List ℕ) → length bs ≤ n → length bs ≤ m → commands n bs ≡ commands m bs

@@ -19,10 +19,10 @@ from-bytes n = omega arith
 
 -- a body of the length that was written comes out whole, and so does what is after it
 dict-back : (e : ℕ) (body rest : List ℕ)
-  → dict-body e (length body) (body ++ rest) ≡ record { what = dict e body; left = rest }
+    → dict-body e (length body) (body ++ rest) ≡ record { what = dict e body; left = rest }
 dict-back e body rest =
     let long : ltb (length (body ++ rest)) (length body) ≡ false
-        = le-ltb _ _ (simp length-append (omega arith)) in
+    = le-ltb _ _ (simp length-append (omega arith)) in
     rw (long, take-at body rest (length body), drop-at body rest (length body))
 
 flag-back : (f : Bool) → flagged (flag-byte f) ≡ Some f
@@ -30,20 +30,20 @@ flag-back true = refl
 flag-back false = refl
 
 data-back : (r e : ℕ) (f : Bool) (body rest : List ℕ)
-  → data-body r e (flag-byte f) (length body) (body ++ rest) ≡ record { what = page r e f body; left = rest }
+    → data-body r e (flag-byte f) (length body) (body ++ rest) ≡ record { what = page r e f body; left = rest }
 data-back r e f body rest =
     let long : ltb (length (body ++ rest)) (length body) ≡ false
-        = le-ltb _ _ (simp length-append (omega arith)) in
+    = le-ltb _ _ (simp length-append (omega arith)) in
     rw (long, take-at body rest (length body), drop-at body rest (length body), flag-back f)
 
 command-back : (d : Delivered) (rest : List ℕ) → Writable d → command (written d ++ rest) ≡ record { what = d; left = rest }
 command-back (page rows encoding flag body) rest h =
     let long : ltb (length (written (page rows encoding flag body) ++ rest)) 11 ≡ false
-        = le-ltb (length (written (page rows encoding flag body) ++ rest)) 11 (omega arith) in
+    = le-ltb (length (written (page rows encoding flag body) ++ rest)) 11 (omega arith) in
     rw (long, from-bytes rows, from-bytes (length body)) (data-back rows encoding flag body rest)
 command-back (dict entries body) rest h =
     let long : ltb (length (written (dict entries body) ++ rest)) 9 ≡ false
-        = le-ltb (length (written (dict entries body) ++ rest)) 9 (omega arith) in
+    = le-ltb (length (written (dict entries body) ++ rest)) 9 (omega arith) in
     rw (long, from-bytes entries, from-bytes (length body)) (dict-back entries body rest)
 command-back (fault n) rest h = absurd h
 

@@ -13,10 +13,10 @@ pub record Case : Type 0 where
 abbrev pub table : List Case
 table =
     record { bytes = []; gives = [] }
-    ∷ record
-      { bytes = 0x50 ∷ 2 ∷ 0 ∷ 0 ∷ 0 ∷ 0 ∷ 1 ∷ 10 ∷ 0 ∷ 0 ∷ 0 ∷ 2 ∷ 0 ∷ 0 ∷ 0 ∷ 3 ∷ 1 ∷ 18 ∷ 0 ∷ 0 ∷ 0 ∷ []
-      ; gives = page 2 0 true (2 ∷ 0 ∷ 0 ∷ 0 ∷ 3 ∷ 1 ∷ 18 ∷ 0 ∷ 0 ∷ 0 ∷ []) ∷ []
-      }
+    ∷ record {
+      bytes = 0x50 ∷ 2 ∷ 0 ∷ 0 ∷ 0 ∷ 0 ∷ 1 ∷ 10 ∷ 0 ∷ 0 ∷ 0 ∷ 2 ∷ 0 ∷ 0 ∷ 0 ∷ 3 ∷ 1 ∷ 18 ∷ 0 ∷ 0 ∷ 0 ∷ [];
+      gives = page 2 0 true (2 ∷ 0 ∷ 0 ∷ 0 ∷ 3 ∷ 1 ∷ 18 ∷ 0 ∷ 0 ∷ 0 ∷ []) ∷ [];
+    }
     ∷ record { bytes = 0x44 ∷ 1 ∷ 0 ∷ 0 ∷ 0 ∷ 1 ∷ 0 ∷ 0 ∷ 0 ∷ 7 ∷ 9 ∷ 9 ∷ []; gives = dict 1 (7 ∷ []) ∷ fault 1 ∷ [] }
     ∷ record { bytes = 0x50 ∷ 0 ∷ 0 ∷ 0 ∷ 0 ∷ 0 ∷ 2 ∷ 1 ∷ 0 ∷ 0 ∷ 0 ∷ []; gives = fault 2 ∷ [] }
     ∷ record { bytes = 0x50 ∷ 0 ∷ 0 ∷ 0 ∷ 0 ∷ 0 ∷ 2 ∷ 0 ∷ 0 ∷ 0 ∷ 0 ∷ []; gives = fault 3 ∷ [] }

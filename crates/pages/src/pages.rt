@@ -3,7 +3,6 @@ ghost use mathlib.Core.List.{List};
 ghost use Rattle.std.specs.Options.{mapped};
 ghost use Rattle.pages.specs.Delivered.{Delivered, first, others};
 ghost use Rattle.pages.specs.Meaning.{meaning};
-
 use crate::page::Delivery;
 
 // a source of pages, by the list of its deliveries

@@ -7,12 +7,11 @@ ghost use Rattle.pages.specs.Cases.{Cases-hold};
 ghost use Rattle.pages.specs.Written.{Delivers-what-was-written, Cut-short-is-2};
 ghost use Rattle.pages.specs.Held.{in-stream};
 ghost use Rattle.pages.specs.Meaning.{taken};
-
 use crate::flags::flag_of;
-use crate::pages::Pages;
 use crate::page::DataPage;
 use crate::page::Delivery;
 use crate::page::DictPage;
+use crate::pages::Pages;
 
 // the first n bytes and those after them, if there are n
 fn part(bytes: &[u8], n: u32) -> Option<(&[u8], &[u8])>
@@ -35,14 +34,28 @@ fn dict_body<'a>(entries: u32, n: u32, bytes: &'a [u8]) -> (Delivery<'a>, &'a [u
     }
 }
 
-fn data_body<'a>(rows: u32, encoding: u8, flag: u8, n: u32, bytes: &'a [u8]) -> (Delivery<'a>, &'a [u8])
+fn data_body<'a>(
+    rows: u32,
+    encoding: u8,
+    flag: u8,
+    n: u32,
+    bytes: &'a [u8],
+) -> (Delivery<'a>, &'a [u8])
     ensures { λ r. ⌜ taken r ≡ data-body rows encoding flag n (now (bytes .entry)) ⌝ }
 {
     match (part(bytes, n), flag_of(flag)) {
         (None, _) => (Delivery::Fault(2), &[]),
         (Some(_), None) => (Delivery::Fault(3), &[]),
         (Some((body, after)), Some(optional)) => {
-            (Delivery::Data(DataPage { rows, encoding, optional, body }), after)
+            (
+                Delivery::Data(DataPage {
+                    rows,
+                    encoding,
+                    optional,
+                    body,
+                }),
+                after,
+            )
         }
     }
 }
@@ -57,7 +70,20 @@ fn first_command<'a>(bytes: &'a [u8]) -> (Delivery<'a>, &'a [u8])
             let n = u32::from_le_bytes([*l0, *l1, *l2, *l3]);
             dict_body(entries, n, rest)
         }
-        [0x50, r0, r1, r2, r3, encoding, flag, l0, l1, l2, l3, rest @ ..] => {
+        [
+            0x50,
+            r0,
+            r1,
+            r2,
+            r3,
+            encoding,
+            flag,
+            l0,
+            l1,
+            l2,
+            l3,
+            rest @ ..,
+        ] => {
             let rows = u32::from_le_bytes([*r0, *r1, *r2, *r3]);
             let n = u32::from_le_bytes([*l0, *l1, *l2, *l3]);
             data_body(rows, *encoding, *flag, n, rest)

@@ -43,9 +43,9 @@ module _ {X : Type 0} (f : X → ℤ) where
   pub fits-rows : (m : List X) (u : ℕ) (vs : List Value) → u ≤ length m → weights vs ≡ 0 → fits (of-rows (length m)) (numbers f (take u m) ++ vs) ≡ leb (u + length vs) (length m)
   fits-rows m u vs h w = rw (length-rows m u vs h, weight-free m u vs w) (either (leb (u + length vs) (length m)))
     where
-    either : (b : Bool) → cond b (leb 0 0) false ≡ b
-    either true = refl
-    either false = refl
+      either : (b : Bool) → cond b (leb 0 0) false ≡ b
+      either true = refl
+      either false = refl
 
   pub joined-yes : (r : Room) (xs ys : List Value) → fits r (xs ++ ys) ≡ true → joined r xs ys ≡ xs ++ ys
   joined-yes r xs ys e = rw e
@@ -64,12 +64,12 @@ module _ {X : Type 0} (f : X → ℤ) where
 
   pub nulls-more : (m : List X) (i u : ℕ) (z : X) (xs : List Value) → i < length m → u ≤ i → f z ≡ pos 0 → numbers f (take i m) ≡ xs ++ replicate (i - u) (number (pos 0)) → numbers f (take (i + 1) (set m i z)) ≡ xs ++ replicate (i + 1 - u) (number (pos 0))
   nulls-more m i u z xs h w e k =
-    let d : i - u + 1 ≡ i + 1 - u = omega arith in
-    ap (numbers f) (take-more-set m i z h) ∙ numbers-append (take i m) (z ∷ [])
-    ∙ ap (λ t. t ++ number (f z) ∷ []) k ∙ ap (λ t. (xs ++ replicate (i - u) (number (pos 0))) ++ number t ∷ []) e
-    ∙ append-assoc xs (replicate (i - u) (number (pos 0))) (number (pos 0) ∷ [])
-    ∙ ap (λ t. xs ++ t) (replicate-more (i - u) (number (pos 0)))
-    ∙ ap (λ t. xs ++ replicate t (number (pos 0))) d
+      let d : i - u + 1 ≡ i + 1 - u = omega arith in
+      ap (numbers f) (take-more-set m i z h) ∙ numbers-append (take i m) (z ∷ [])
+      ∙ ap (λ t. t ++ number (f z) ∷ []) k ∙ ap (λ t. (xs ++ replicate (i - u) (number (pos 0))) ++ number t ∷ []) e
+      ∙ append-assoc xs (replicate (i - u) (number (pos 0))) (number (pos 0) ∷ [])
+      ∙ ap (λ t. xs ++ t) (replicate-more (i - u) (number (pos 0)))
+      ∙ ap (λ t. xs ++ replicate t (number (pos 0))) d
 
   pub weights-nulls : (n : ℕ) → weights (replicate n (number (pos 0))) ≡ 0
   weights-nulls zero = refl
@@ -83,9 +83,9 @@ module _ {X : Type 0} (f : X → ℤ) where
 
   pub nulls-done : (m m′ : List X) (i u n : ℕ) → i ≡ u + n → u ≤ length m → n ≤ length m - u → numbers f (take i m′) ≡ numbers f (take u m) ++ replicate (i - u) (number (pos 0)) → numbers f (take (u + n) m′) ≡ joined (of-rows (length m)) (numbers f (take u m)) (replicate n (number (pos 0)))
   nulls-done m m′ i u n e w h k =
-    let d : i - u ≡ n = omega arith in
-    ap (λ t. numbers f (take t m′)) (sym e) ∙ k ∙ ap (λ t. numbers f (take u m) ++ replicate t (number (pos 0))) d
-    ∙ sym (joined-yes (of-rows (length m)) (numbers f (take u m)) (replicate n (number (pos 0))) (nulls-fit m u n w h))
+      let d : i - u ≡ n = omega arith in
+      ap (λ t. numbers f (take t m′)) (sym e) ∙ k ∙ ap (λ t. numbers f (take u m) ++ replicate t (number (pos 0))) d
+      ∙ sym (joined-yes (of-rows (length m)) (numbers f (take u m)) (replicate n (number (pos 0))) (nulls-fit m u n w h))
 
   -- a sink's values fit
   pub numbers-fit : (m : List X) (u : ℕ) → u ≤ length m → fits (of-rows (length m)) (numbers f (take u m)) ≡ true

@@ -1,7 +1,6 @@
 ghost use lib.IntN.{pos};
 ghost use Rattle.values.specs.Little.{signed, unsigned};
 ghost use Rattle.values.specs.Values.{a-number, number};
-
 use super::Element;
 use super::Meant;
 use super::Valued;

@@ -11,7 +11,6 @@ ghost use Rattle.holders.specs.Judge.{needed};
 ghost use Rattle.holders.specs.Left.{present-left};
 ghost use Rattle.holders.specs.Cursors.{to-give};
 ghost use Rattle.holders.specs.Holding.{held, unused-as};
-
 use super::Holder;
 use crate::cursor::Cursor;
 use crate::cursor::OverPage;
@@ -50,7 +49,13 @@ impl<'a, const F: u8> Holder<'a, F> {
     }
 
     // The first k unused rows of an optional page go into sink and validity.
-    fn append_optional<C: OverPage<'a>, P: Pushable<C::Item>, V: Validity>(&mut self, cursor: &mut C, k: usize, sink: &mut P, validity: &mut V)
+    fn append_optional<C: OverPage<'a>, P: Pushable<C::Item>, V: Validity>(
+        &mut self,
+        cursor: &mut C,
+        k: usize,
+        sink: &mut P,
+        validity: &mut V,
+    )
         requires flag { ⌜ now self .optional ≡ true ⌝ }
         requires rows { ⌜ k ≤ now self .rows ⌝ }
         requires fits { ⌜ fits (P·Sink .room (now sink)) (P·Sink .items (now sink) ++ stands (P·Sink .room (now sink) .blank) (take k (unused-as (C·OverPage .value) (now self)))) ≡ true ⌝ }
@@ -66,11 +71,22 @@ impl<'a, const F: u8> Holder<'a, F> {
         cursor.load(self.values);
         extend_from_decoder(validity, &mut page, k, sink, cursor);
         let rows = self.rows - k as u32;
-        *self = Holder { optional: self.optional, dict: self.dict, rows, validity: page, values: cursor.rest() };
+        *self = Holder {
+            optional: self.optional,
+            dict: self.dict,
+            rows,
+            validity: page,
+            values: cursor.rest(),
+        };
     }
 
     // The first k unused rows of a required page go into the sink.
-    fn append_required<C: OverPage<'a>, P: Pushable<C::Item>>(&mut self, cursor: &mut C, k: usize, sink: &mut P)
+    fn append_required<C: OverPage<'a>, P: Pushable<C::Item>>(
+        &mut self,
+        cursor: &mut C,
+        k: usize,
+        sink: &mut P,
+    )
         requires flag { ⌜ now self .optional ≡ false ⌝ }
         requires rows { ⌜ k ≤ now self .rows ⌝ }
         requires fits { ⌜ fits (P·Sink .room (now sink)) (P·Sink .items (now sink) ++ stands (P·Sink .room (now sink) .blank) (take k (unused-as (C·OverPage .value) (now self)))) ≡ true ⌝ }
@@ -83,11 +99,23 @@ impl<'a, const F: u8> Holder<'a, F> {
         cursor.load(self.values);
         extend_required(k, sink, cursor);
         let rows = self.rows - k as u32;
-        *self = Holder { optional: self.optional, dict: self.dict, rows, validity: self.validity, values: cursor.rest() };
+        *self = Holder {
+            optional: self.optional,
+            dict: self.dict,
+            rows,
+            validity: self.validity,
+            values: cursor.rest(),
+        };
     }
 
     // The first k unused rows go into sink and validity.
-    fn append<C: OverPage<'a>, P: Pushable<C::Item>, V: Validity>(&mut self, cursor: &mut C, k: usize, sink: &mut P, validity: &mut V)
+    fn append<C: OverPage<'a>, P: Pushable<C::Item>, V: Validity>(
+        &mut self,
+        cursor: &mut C,
+        k: usize,
+        sink: &mut P,
+        validity: &mut V,
+    )
         requires rows { ⌜ k ≤ now self .rows ⌝ }
         requires fits { ⌜ fits (P·Sink .room (now sink)) (P·Sink .items (now sink) ++ stands (P·Sink .room (now sink) .blank) (take k (unused-as (C·OverPage .value) (now self)))) ≡ true ⌝ }
         requires bits { ⌜ bits-due (now self .optional) (length (V·Validity .bits (now validity)) + k) ≤ V·Validity .room (now validity) ⌝ }
@@ -107,7 +135,13 @@ impl<'a, const F: u8> Holder<'a, F> {
 
     // The first k unused rows go into sink and validity, or none of them: false, with nothing changed, where there are fewer
     // or no room for them. The cursor is put over the page's values for this.
-    pub fn extend_from_state<C: OverPage<'a>, P: Pushable<C::Item>, V: Validity>(&mut self, cursor: &mut C, k: usize, sink: &mut P, validity: &mut V) -> bool
+    pub fn extend_from_state<C: OverPage<'a>, P: Pushable<C::Item>, V: Validity>(
+        &mut self,
+        cursor: &mut C,
+        k: usize,
+        sink: &mut P,
+        validity: &mut V,
+    ) -> bool
         ensures answer { λ r. ⌜ r ≡ room-for (now (self .entry) .optional) (P·Sink .room (now (sink .entry))) (V·Validity .room (now (validity .entry))) k (unused-as (C·OverPage .value) (now (self .entry))) (P·Sink .items (now (sink .entry))) (V·Validity .bits (now (validity .entry))) ⌝ }
         ensures unused { λ r. ⌜ unused-as (C·OverPage .value) (now (self .exit)) ≡ cond r (drop k (unused-as (C·OverPage .value) (now (self .entry)))) (unused-as (C·OverPage .value) (now (self .entry))) ⌝ }
         ensures held { λ _. ⌜ held (now (self .exit)) ≡ held (now (self .entry)) ⌝ }
@@ -117,7 +151,15 @@ impl<'a, const F: u8> Holder<'a, F> {
         ensures memory { λ _. ⌜ (P·Sink .room (now (sink .exit)) ≡ P·Sink .room (now (sink .entry))) × (P·Sink .home (now (sink .exit)) ≡ P·Sink .home (now (sink .entry))) × (V·Validity .room (now (validity .exit)) ≡ V·Validity .room (now (validity .entry))) × (V·Validity .home (now (validity .exit)) ≡ V·Validity .home (now (validity .entry))) ⌝ }
         ensures kept { λ r. ⌜ (r ≡ false → (now (self .exit) ≡ now (self .entry)) × (now (sink .exit) ≡ now (sink .entry)) × (now (validity .exit) ≡ now (validity .entry))) ⌝ }
     {
-        if !room(k, self.rows as usize, sink.len(), sink.capacity(), self.optional, validity.len(), validity.capacity()) {
+        if !room(
+            k,
+            self.rows as usize,
+            sink.len(),
+            sink.capacity(),
+            self.optional,
+            validity.len(),
+            validity.capacity(),
+        ) {
             return false;
         }
         if !self.bytes_fit(cursor, k, sink.spare()) {
@@ -136,7 +178,15 @@ fn within(n: usize, k: usize, cap: usize) -> bool
 }
 
 // Whether there are k rows, and room for them in rows and validity bits.
-fn room(k: usize, left: usize, rows: usize, cap: usize, optional: bool, bits: usize, most: usize) -> bool
+fn room(
+    k: usize,
+    left: usize,
+    rows: usize,
+    cap: usize,
+    optional: bool,
+    bits: usize,
+    most: usize,
+) -> bool
     ensures { λ r. ⌜ r ≡ (leb k left && leb (rows + k) cap && leb (bits-due optional (bits + k)) most) ⌝ }
 {
     k <= left && within(rows, k, cap) && (!optional || within(bits, k, most))

@@ -5,21 +5,20 @@ ghost use lib.ListN.{length};
 ghost use Rattle.pages.specs.Meaning.{meaning};
 ghost use Rattle.holders.specs.Judge.{judge, form-of};
 ghost use Rattle.holders.specs.Holding.{unused, held, answered, rows-after, held-after, page-verdict, dict-verdict};
-
 use super::Holder;
 use crate::checks::coded;
-use crate::page_values::PageValues;
 use crate::checks::few;
 use crate::checks::form_of;
 use crate::page::checked_page;
+use crate::page_values::PageValues;
 use crate::types::Dict;
+use crate::types::Values;
 use crate::values::entries_fit;
 use faults::types::Cause;
-use pages::page::DataPage;
-use pages::page::DictPage;
-use pages::page::Delivery;
-use crate::types::Values;
 use hybrid_rle::validity::OptionalPageValidity;
+use pages::page::DataPage;
+use pages::page::Delivery;
+use pages::page::DictPage;
 
 impl<'a, const F: u8> Holder<'a, F> {
     // No page and no dictionary.
@@ -33,8 +32,19 @@ impl<'a, const F: u8> Holder<'a, F> {
             dict: None,
             rows: 0,
             validity: OptionalPageValidity::empty(),
-            values: PageValues { form: F, n: 0, values: Values::Plain { bytes: &[], at: 0 } },
+            values: PageValues {
+                form: F,
+                n: 0,
+                values: Values::Plain { bytes: &[], at: 0 },
+            },
         }
+    }
+
+    // Whether a row may be null.
+    pub fn optional(&self) -> bool
+        ensures { λ r. ⌜ r ≡ now (self .entry) .optional ⌝ }
+    {
+        self.optional
     }
 
     // The rows not used yet.
@@ -59,7 +69,10 @@ impl<'a, const F: u8> Holder<'a, F> {
         if !entries_fit(form, p.entries as usize, p.body) {
             return Err(Cause::Dictionary);
         }
-        self.dict = Some(Dict { entries: p.entries, body: p.body });
+        self.dict = Some(Dict {
+            entries: p.entries,
+            body: p.body,
+        });
         Ok(())
     }
 
@@ -72,7 +85,13 @@ impl<'a, const F: u8> Holder<'a, F> {
     {
         let mut validity = OptionalPageValidity::empty();
         let (n, values) = checked_page(form_of(F), self.optional, self.dict, &mut validity, p)?;
-        *self = Holder { optional: self.optional, dict: self.dict, rows: p.rows, validity, values: PageValues { form: F, n, values } };
+        *self = Holder {
+            optional: self.optional,
+            dict: self.dict,
+            rows: p.rows,
+            validity,
+            values: PageValues { form: F, n, values },
+        };
         Ok(())
     }
 

@@ -1,15 +1,27 @@
 ghost use mathlib.Core.Path.{_≡_};
+ghost use mathlib.Core.List.{[]};
 ghost use lib.ListN.{length};
 ghost use Rattle.std.specs.Options.{isSome, mapped};
 ghost use Rattle.pages.specs.Delivered.{first, others};
 ghost use Rattle.holders.specs.Judge.{form-of};
 ghost use Rattle.holders.specs.Cursors.{to-give};
-
 use super::PageValues;
 use crate::checks::form_of;
 use crate::take::take_value;
+use crate::types::Values;
 
 impl<'a> PageValues<'a> {
+    // No values.
+    pub fn empty() -> Self
+        ensures { λ r. ⌜ to-give r ≡ [] ⌝ }
+    {
+        PageValues {
+            form: 4,
+            n: 0,
+            values: Values::Plain { bytes: &[], at: 0 },
+        }
+    }
+
     pub fn left(&self) -> usize
         ensures { λ r. ⌜ r ≡ length (to-give (now (self .entry))) ⌝ }
     {
@@ -26,7 +38,11 @@ impl<'a> PageValues<'a> {
         }
         let mut values = self.values;
         let value = take_value(form_of(self.form), self.n, &mut values);
-        *self = PageValues { form: self.form, n: self.n - 1, values };
+        *self = PageValues {
+            form: self.form,
+            n: self.n - 1,
+            values,
+        };
         Some(value)
     }
 }

@@ -3,13 +3,12 @@ ghost use mathlib.Core.Bool.{true};
 ghost use lib.ListN.{length};
 ghost use Rattle.std.specs.Results.{isOk};
 ghost use mathlib.Core.Path.{_≡_};
-ghost use Prim.Native.Nat.{_<_};
+ghost use Prim.Native.Nat.{_+_, _^_, _<_};
 ghost use Rattle.hybrid_rle.specs.Cursor.{to-come};
 ghost use Rattle.hybrid_rle.specs.Rows.{piece, beyond, in-place, taken, flat};
 ghost use Rattle.hybrid_rle.specs.Runs.{runs, sound};
 ghost use Rattle.hybrid_rle.specs.Held.{asked, held, Inside};
 ghost use Rattle.hybrid_rle.specs.declared.validity.Current.the-variants.{Nothing};
-
 use super::Current;
 use super::OptionalPageValidity;
 use super::Piece;
@@ -31,13 +30,20 @@ impl<'a> OptionalPageValidity<'a> {
         match run {
             Run::Bitmap { bytes, length } => {
                 let length = length.min(self.left);
-                self.current = Current::Bitmap { bytes, offset: 0, length };
+                self.current = Current::Bitmap {
+                    bytes,
+                    offset: 0,
+                    length,
+                };
                 self.left -= length;
                 self.rest = rest;
             }
             Run::Repeated { value, length } => {
                 let length = length.min(self.left);
-                self.current = Current::Repeated { is_set: value == 1, length };
+                self.current = Current::Repeated {
+                    is_set: value == 1,
+                    length,
+                };
                 self.left -= length;
                 self.rest = rest;
             }
@@ -59,24 +65,52 @@ impl<'a> OptionalPageValidity<'a> {
         }
         match (&mut self.current, limit) {
             (Current::Nothing, _) => unreachable(),
-            (Current::Bitmap { bytes, offset, length }, limit) if limit < *length => {
-                let piece = Piece::Bitmap { bytes: *bytes, offset: *offset, length: limit };
-                *offset += limit;
+            (
+                Current::Bitmap {
+                    bytes,
+                    offset,
+                    length,
+                },
+                limit,
+            ) if limit < *length => {
+                let piece = Piece::Bitmap {
+                    bytes: *bytes,
+                    offset: *offset,
+                    length: limit,
+                };
+                *offset = row_after(*offset, limit);
                 *length -= limit;
                 Some(piece)
             }
             (Current::Repeated { is_set, length }, limit) if limit < *length => {
-                let piece = Piece::Repeated { is_set: *is_set, length: limit };
+                let piece = Piece::Repeated {
+                    is_set: *is_set,
+                    length: limit,
+                };
                 *length -= limit;
                 Some(piece)
             }
-            (Current::Bitmap { bytes, offset, length }, _) => {
-                let piece = Piece::Bitmap { bytes: *bytes, offset: *offset, length: *length };
+            (
+                Current::Bitmap {
+                    bytes,
+                    offset,
+                    length,
+                },
+                _,
+            ) => {
+                let piece = Piece::Bitmap {
+                    bytes: *bytes,
+                    offset: *offset,
+                    length: *length,
+                };
                 self.current = Current::Nothing;
                 Some(piece)
             }
             (Current::Repeated { is_set, length }, _) => {
-                let piece = Piece::Repeated { is_set: *is_set, length: *length };
+                let piece = Piece::Repeated {
+                    is_set: *is_set,
+                    length: *length,
+                };
                 self.current = Current::Nothing;
                 Some(piece)
             }
@@ -87,7 +121,11 @@ impl<'a> OptionalPageValidity<'a> {
     pub fn empty() -> Self
         ensures { λ r. ⌜ to-come r ≡ [] ⌝ }
     {
-        OptionalPageValidity { rest: &[], left: 0, current: Current::Nothing }
+        OptionalPageValidity {
+            rest: &[],
+            left: 0,
+            current: Current::Nothing,
+        }
     }
 
     // Holds the rows of a page in the place of those held, if its stream gives them.
@@ -102,4 +140,12 @@ impl<'a> OptionalPageValidity<'a> {
         self.current = Current::Nothing;
         Ok(())
     }
+}
+
+// Where a run goes on that was cut after `rows` rows.
+fn row_after(offset: usize, rows: usize) -> usize
+    requires { ⌜ offset + rows < 2 ^ 64 ⌝ }
+    ensures { λ r. ⌜ r ≡ offset + rows ⌝ }
+{
+    rows + offset
 }

@@ -28,9 +28,10 @@ push-piece-requires g c κs =
     let s = c .pre .space in
     let e = all-rows F xs (flat (to-come (c .next-limited .last .self))) (c .loop-done .done) (c .args .limit) (c .in-Some .ensures tt .onward ∙ c .loop-done .inv .1) (omega (arith, c .pre .rows)) n in
     record {
-        inside = c .in-Some .ensures tt .inside;
-        able = mid-able _ _ (take (c .args .limit) F) (take (c .loop-done .done) F) xs (take (c .args .limit - (c .loop-done .done + length xs)) (flat (to-come (c .next-limited .last .self)))) _ e (c .pre .able) _ _ _ (c .loop-done .inv .4) (c .loop-done .inv .2) (c .loop-done .inv .3);
-        space = subst (λ k. length (g .V·Validity .bits (c .loop-done .validity)) + length xs ≤ k) (sym (c .loop-done .inv .7)) (omega arith) }
+      inside = c .in-Some .ensures tt .inside;
+      able = mid-able _ _ (take (c .args .limit) F) (take (c .loop-done .done) F) xs (take (c .args .limit - (c .loop-done .done + length xs)) (flat (to-come (c .next-limited .last .self)))) _ e (c .pre .able) _ _ _ (c .loop-done .inv .4) (c .loop-done .inv .2) (c .loop-done .inv .3);
+      space = subst (λ k. length (g .V·Validity .bits (c .loop-done .validity)) + length xs ≤ k) (sym (c .loop-done .inv .7)) (omega arith);
+    }
 
 pub add-done : need.add-done
 add-done g c =
@@ -63,13 +64,14 @@ loop-done-again g c =
     let e = all-rows F xs ys d (c .args .limit) o some n in
     let x : take (d + c .rows-in-n .result) F ≡ take d F ++ xs = ap (λ j. take (d + j) F) k ∙ more-taken F xs ys d (c .args .limit) o some n in
     let z = c .push-piece .ensures in
-    let y = mid-grown _ _ (take (c .args .limit) F) (take d F) xs (take (c .args .limit - (d + length xs)) ys) _ e (c .pre .able) _ (take (d + c .rows-in-n .result) F) _ _ _ _ (c .loop-done .inv .4) x (c .loop-done .inv .2) (c .loop-done .inv .3) (z .items) (z .left) in
-    (omega arith,
-    more-dropped F xs ys d (c .args .limit) o some n ∙ ap (λ j. drop (d + j) F) (sym k),
-    y .0,
-    y .1,
-    z .room ∙ c .loop-done .inv .4,
-    z .home ∙ c .loop-done .inv .5,
-    z .bits ∙ ap (λ l. l ++ xs) (c .loop-done .inv .6) ∙ append-assoc (g .V·Validity .bits (c .args .validity .now)) (take d F) xs ∙ ap (λ l. g .V·Validity .bits (c .args .validity .now) ++ l) (sym x),
-    z .space ∙ c .loop-done .inv .7,
-    z .same ∙ c .loop-done .inv .8)
+    let y = mid-grown _ _ (take (c .args .limit) F) (take d F) xs (take (c .args .limit - (d + length xs)) ys) _ e (c .pre .able) _ (take (d + c .rows-in-n .result) F) _ _ _ _ (c .loop-done .inv .4) x (c .loop-done .inv .2) (c .loop-done .inv .3) (z .items) (z .left) in (
+      omega arith,
+      more-dropped F xs ys d (c .args .limit) o some n ∙ ap (λ j. drop (d + j) F) (sym k),
+      y .0,
+      y .1,
+      z .room ∙ c .loop-done .inv .4,
+      z .home ∙ c .loop-done .inv .5,
+      z .bits ∙ ap (λ l. l ++ xs) (c .loop-done .inv .6) ∙ append-assoc (g .V·Validity .bits (c .args .validity .now)) (take d F) xs ∙ ap (λ l. g .V·Validity .bits (c .args .validity .now) ++ l) (sym x),
+      z .space ∙ c .loop-done .inv .7,
+      z .same ∙ c .loop-done .inv .8,
+    )

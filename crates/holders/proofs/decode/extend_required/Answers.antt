@@ -13,7 +13,8 @@ pub returns : need.returns
 returns g c =
     let e = c .push-values .ensures in
     record {
-        items = e .items ∙ ap (λ t. g .P·Sink .items (c .args .sink .now) ++ t) (filled-values (g .P·Sink .room (c .args .sink .now) .blank) (c .args .limit) (g .C·Cursor .left (c .args .values .now)) (c .pre .some));
-        left = e .left ∙ ap (λ k. drop k (g .C·Cursor .left (c .args .values .now))) (needed-values (c .args .limit));
-        room = e .room;
-        home = e .home }
+      items = e .items ∙ ap (λ t. g .P·Sink .items (c .args .sink .now) ++ t) (filled-values (g .P·Sink .room (c .args .sink .now) .blank) (c .args .limit) (g .C·Cursor .left (c .args .values .now)) (c .pre .some));
+      left = e .left ∙ ap (λ k. drop k (g .C·Cursor .left (c .args .values .now))) (needed-values (c .args .limit));
+      room = e .room;
+      home = e .home;
+    }

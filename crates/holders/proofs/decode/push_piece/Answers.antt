@@ -28,13 +28,14 @@ returns-in-Bitmap g c =
     let x = c .extend-from-slice .ensures in
     let ok : isOk (c .extend-from-slice .result) ≡ true = ap isOk (x .answer) ∙ sliced-ok (length bs) (g .V·Validity .room v) (length (g .V·Validity .bits v)) (c .in-Bitmap .offset) (c .in-Bitmap .length) (i .0) (i .1) (omega arith) in
     record {
-        items = c .push-bits .ensures .items ∙ ap (λ t. g .P·Sink .items (c .args .sink .now) ++ filled (g .P·Sink .room (c .args .sink .now) .blank) t (g .C·Cursor .left (c .args .values .now))) (sym e);
-        left = c .push-bits .ensures .left ∙ ap (λ t. drop (needed t) (g .C·Cursor .left (c .args .values .now))) (sym e);
-        room = c .push-bits .ensures .room;
-        home = c .push-bits .ensures .home;
-        bits = (simp ok at (x .bits)) ∙ ap (λ t. g .V·Validity .bits v ++ t) (part-bits bs (c .in-Bitmap .offset) (c .in-Bitmap .length) ∙ sym e);
-        space = x .room;
-        same = x .home }
+      items = c .push-bits .ensures .items ∙ ap (λ t. g .P·Sink .items (c .args .sink .now) ++ filled (g .P·Sink .room (c .args .sink .now) .blank) t (g .C·Cursor .left (c .args .values .now))) (sym e);
+      left = c .push-bits .ensures .left ∙ ap (λ t. drop (needed t) (g .C·Cursor .left (c .args .values .now))) (sym e);
+      room = c .push-bits .ensures .room;
+      home = c .push-bits .ensures .home;
+      bits = (simp ok at (x .bits)) ∙ ap (λ t. g .V·Validity .bits v ++ t) (part-bits bs (c .in-Bitmap .offset) (c .in-Bitmap .length) ∙ sym e);
+      space = x .room;
+      same = x .home;
+    }
 
 pub returns-in-Repeated : need.returns-in-Repeated
 returns-in-Repeated g c =
@@ -46,10 +47,11 @@ returns-in-Repeated g c =
     let x = c .extend-constant .ensures in
     let ok : isOk (c .extend-constant .result) ≡ true = x .answer ∙ le-leb (length (g .V·Validity .bits v) + n) (g .V·Validity .room v) (omega arith) in
     record {
-        items = c .push-same .ensures .items ∙ ap (λ t. g .P·Sink .items (c .args .sink .now) ++ filled (g .P·Sink .room (c .args .sink .now) .blank) t (g .C·Cursor .left (c .args .values .now))) (sym e);
-        left = c .push-same .ensures .left ∙ ap (λ t. drop (needed t) (g .C·Cursor .left (c .args .values .now))) (sym e);
-        room = c .push-same .ensures .room;
-        home = c .push-same .ensures .home;
-        bits = (simp ok at (x .bits)) ∙ ap (λ t. g .V·Validity .bits v ++ t) (sym e);
-        space = x .room;
-        same = x .home }
+      items = c .push-same .ensures .items ∙ ap (λ t. g .P·Sink .items (c .args .sink .now) ++ filled (g .P·Sink .room (c .args .sink .now) .blank) t (g .C·Cursor .left (c .args .values .now))) (sym e);
+      left = c .push-same .ensures .left ∙ ap (λ t. drop (needed t) (g .C·Cursor .left (c .args .values .now))) (sym e);
+      room = c .push-same .ensures .room;
+      home = c .push-same .ensures .home;
+      bits = (simp ok at (x .bits)) ∙ ap (λ t. g .V·Validity .bits v ++ t) (sym e);
+      space = x .room;
+      same = x .home;
+    }

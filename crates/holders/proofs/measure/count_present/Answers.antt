@@ -61,8 +61,9 @@ loop-done-again c =
     let p = c .present-in-k .ensures in
     let q = needed-most xs in
     let i = c .loop-done .inv .2 in
-    let j = c .loop-done .inv .3 in
-    (omega arith,
-    more-dropped F xs ys d (c .args .limit) o some n ∙ ap (λ j. drop (d + j) F) (sym k),
-    omega (arith, u),
-    omega arith)
+    let j = c .loop-done .inv .3 in (
+      omega arith,
+      more-dropped F xs ys d (c .args .limit) o some n ∙ ap (λ j. drop (d + j) F) (sym k),
+      omega (arith, u),
+      omega arith,
+    )

@@ -16,9 +16,10 @@ pub returns-then-k-spare : need.returns-then-k-spare
 returns-then-k-spare g c = weigh-out (g .C·Cursor .left (c .args .values .now)) (c .loop-i .i) _ (c .in-Some .ensures tt .given ∙ ap first (c .loop-i .inv .0)) (c .args .most) (c .loop-i .spare) (c .loop-i .inv .1) (c .weigh-k .result) (c .args .n) (c .weigh-k .ensures) (c .if-k-spare .taken) (c .loop-i-test .taken)
 
 pub loop-i-again : need.loop-i-again
-loop-i-again g c =
-    (c .in-Some .ensures tt .after ∙ ap others (c .loop-i .inv .0) ∙ drop-first (g .C·Cursor .left (c .args .values .now)) (c .loop-i .i),
-    weigh-on (g .C·Cursor .left (c .args .values .now)) (c .loop-i .i) _ (c .in-Some .ensures tt .given ∙ ap first (c .loop-i .inv .0)) (c .args .most) (c .loop-i .spare) (c .loop-i .inv .1) (c .weigh-k .result) (c .weigh-k .ensures) (c .if-k-spare .left))
+loop-i-again g c = (
+  c .in-Some .ensures tt .after ∙ ap others (c .loop-i .inv .0) ∙ drop-first (g .C·Cursor .left (c .args .values .now)) (c .loop-i .i),
+  weigh-on (g .C·Cursor .left (c .args .values .now)) (c .loop-i .i) _ (c .in-Some .ensures tt .given ∙ ap first (c .loop-i .inv .0)) (c .args .most) (c .loop-i .spare) (c .loop-i .inv .1) (c .weigh-k .result) (c .weigh-k .ensures) (c .if-k-spare .left),
+)
 
 pub returns : need.returns
 returns g c =

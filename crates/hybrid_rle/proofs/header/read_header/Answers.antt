@@ -24,6 +24,7 @@ returns-else-value c =
 
 -- src/lib.rt:19:5
 pub loop-at-again : need.loop-at-again
-loop-at-again c =
-    (digits-below _ (c .loop-at .at) (c .loop-at .value) (omega arith) (c .loop-at .inv .0),
-    more-digits (c .args .bytes .now) (c .loop-at .at) (c .loop-at .value) (omega arith) (omega arith) (omega arith) (c .loop-at .inv .1) (omega arith))
+loop-at-again c = (
+  digits-below _ (c .loop-at .at) (c .loop-at .value) (omega arith) (c .loop-at .inv .0),
+  more-digits (c .args .bytes .now) (c .loop-at .at) (c .loop-at .value) (omega arith) (omega arith) (omega arith) (c .loop-at .inv .1) (omega arith),
+)

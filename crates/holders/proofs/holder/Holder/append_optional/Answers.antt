@@ -17,10 +17,12 @@ extend-from-decoder-requires g c κs =
     let k = c .args .k in
     record {
       rows = rows-there h f k (c .pre .rows) (c .pre .flag);
-      able = subst (λ t. Able r (g .P·Sink .items (c .args .sink .now)) (take k (flat (to-come (h .validity)))) t) (sym (c .load .ensures))
-        (values-there h f k (c .pre .rows) (c .pre .flag),
-        sym (ap (λ t. fits r (g .P·Sink .items (c .args .sink .now) ++ t)) (stands-flat h f k (c .pre .rows) (c .pre .flag) (r .blank))) ∙ c .pre .fits);
-      space = c .pre .bits }
+      able = subst (λ t. Able r (g .P·Sink .items (c .args .sink .now)) (take k (flat (to-come (h .validity)))) t) (sym (c .load .ensures)) (
+        values-there h f k (c .pre .rows) (c .pre .flag),
+        sym (ap (λ t. fits r (g .P·Sink .items (c .args .sink .now) ++ t)) (stands-flat h f k (c .pre .rows) (c .pre .flag) (r .blank))) ∙ c .pre .fits,
+      );
+      space = c .pre .bits;
+    }
 
 pub ghost-self : need.ghost-self
 ghost-self g c =
@@ -44,4 +46,5 @@ returns g c =
       flag = refl;
       values = e .items ∙ ap (λ t. g .P·Sink .items (c .args .sink .now) ++ t) (ap (filled (r .blank) (take k (flat (to-come (h .validity))))) (c .load .ensures) ∙ sym (stands-flat h f k (c .pre .rows) (c .pre .flag) (r .blank)));
       bits = e .bits ∙ ap (λ t. g .V·Validity .bits (c .args .validity .now) ++ t) (sym (bits-flat h f k (c .pre .rows) (c .pre .flag)));
-      memory = (e .room, e .home, e .space, e .same) }
+      memory = (e .room, e .home, e .space, e .same);
+    }

@@ -16,7 +16,8 @@ extend-required-requires g c κs =
     let e = sym (c .load .ensures) in
     record {
       some = subst (λ t. k ≤ length t) e (all-there h f k (c .pre .rows) (c .pre .flag));
-      fits = subst (λ t. fits r (g .P·Sink .items (c .args .sink .now) ++ take k t) ≡ true) e (sym (ap (λ t. fits r (g .P·Sink .items (c .args .sink .now) ++ t)) (stands-all h f k (c .pre .rows) (c .pre .flag) (r .blank))) ∙ c .pre .fits) }
+      fits = subst (λ t. fits r (g .P·Sink .items (c .args .sink .now) ++ take k t) ≡ true) e (sym (ap (λ t. fits r (g .P·Sink .items (c .args .sink .now) ++ t)) (stands-all h f k (c .pre .rows) (c .pre .flag) (r .blank))) ∙ c .pre .fits);
+    }
 
 pub ghost-self : need.ghost-self
 ghost-self g c =
@@ -38,4 +39,5 @@ returns g c =
       held = refl;
       flag = refl;
       values = e .items ∙ ap (λ t. g .P·Sink .items (c .args .sink .now) ++ t) (ap (take k) (c .load .ensures) ∙ sym (stands-all h f k (c .pre .rows) (c .pre .flag) (r .blank)));
-      memory = (e .room, e .home) }
+      memory = (e .room, e .home);
+    }

@@ -24,7 +24,14 @@ returns-then-not-room g c =
     let said = c .if-not-room .ensures tt ∙ same-tests (h .optional) r n k (h .rows) (c .len .result) (c .capacity .result) (c .len-2 .result) (c .capacity-2 .result) us vs bs (unused-number h f) (c .len .ensures) (c .capacity .ensures) (c .len-2 .ensures) (c .capacity-2 .ensures) in
     record {
       answer = no-room (leb k (length us)) (leb (length vs + k) (r .rows)) (leb (bits-due (h .optional) (length bs + k)) n) (leb (weights vs + weights (stands (r .blank) (take k us))) (r .bytes)) said;
-      unused = refl; held = refl; flag = refl; values = refl; bits = refl; memory = (refl, refl, refl, refl); kept = λ _. (refl, refl, refl) }
+      unused = refl;
+      held = refl;
+      flag = refl;
+      values = refl;
+      bits = refl;
+      memory = (refl, refl, refl, refl);
+      kept = λ _. (refl, refl, refl);
+    }
 
 pub returns-then-not-bytes-fit : need.returns-then-not-bytes-fit
 returns-then-not-bytes-fit g c =
@@ -40,7 +47,14 @@ returns-then-not-bytes-fit g c =
     let said = c .if-not-room .ensures tt ∙ same-tests (h .optional) r n k (h .rows) (c .len .result) (c .capacity .result) (c .len-2 .result) (c .capacity-2 .result) us vs bs (unused-number h f) (c .len .ensures) (c .capacity .ensures) (c .len-2 .ensures) (c .capacity-2 .ensures) in
     record {
       answer = c .if-not-bytes-fit .ensures tt ∙ bytes-same h f k w r vs (c .spare .result) (g .P·Sink .light (c .args .sink .now)) (c .spare .ensures) ∙ all-room (leb k (length us)) (leb (length vs + k) (r .rows)) (leb (bits-due (h .optional) (length bs + k)) n) (leb (weights vs + weights (stands (r .blank) (take k us))) (r .bytes)) said;
-      unused = refl; held = refl; flag = refl; values = refl; bits = refl; memory = (refl, refl, refl, refl); kept = λ _. (refl, refl, refl) }
+      unused = refl;
+      held = refl;
+      flag = refl;
+      values = refl;
+      bits = refl;
+      memory = (refl, refl, refl, refl);
+      kept = λ _. (refl, refl, refl);
+    }
 
 pub append-requires : need.append-requires
 append-requires g c κs =
@@ -73,4 +87,11 @@ returns g c =
     let e = c .append .ensures in
     record {
       answer = c .if-not-bytes-fit .ensures tt ∙ bytes-same h f k w r vs (c .spare .result) (g .P·Sink .light (c .args .sink .now)) (c .spare .ensures) ∙ all-room (leb k (length us)) (leb (length vs + k) (r .rows)) (leb (bits-due (h .optional) (length bs + k)) n) (leb (weights vs + weights (stands (r .blank) (take k us))) (r .bytes)) said;
-      unused = e .unused; held = e .held; flag = e .flag; values = e .values; bits = e .bits; memory = e .memory; kept = λ q. let z : _≡_ {A = ℕ} 0 1 = cc in absurd (omega arith) }
+      unused = e .unused;
+      held = e .held;
+      flag = e .flag;
+      values = e .values;
+      bits = e .bits;
+      memory = e .memory;
+      kept = λ q. let z : _≡_ {A = ℕ} 0 1 = cc in absurd (omega arith);
+    }

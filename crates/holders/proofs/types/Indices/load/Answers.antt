@@ -20,7 +20,8 @@ returns-in-Bitmap c =
     let r = subst (λ x. bits-of (h .w) x ≤ bits-in x) (c .in-Bitmap .is) (room-at (h .w) (h .rest .now) (c .in-Ok .run′) (c .in-Ok .rest .now) (c .in-Ok .ensures tt ∙ run-at-small (h .w) (h .rest .now) w)) in
     record {
       same = load-packed (h .w) (h .left) (h .rest .now) (c .in-Ok .rest .now) (c .in-Bitmap .bytes .now) (h .current) (c .in-Bitmap .length) (c .min-length .result) (c .pre .1 .1) (c .pre .1 .0) e (c .pre .0) (c .min-length .ensures) r;
-      shorter = run-shorter (h .w) (h .rest .now) _ (sym e) }
+      shorter = run-shorter (h .w) (h .rest .now) _ (sym e);
+    }
 
 pub returns-in-Repeated : need.returns-in-Repeated
 returns-in-Repeated c =
@@ -29,7 +30,8 @@ returns-in-Repeated c =
     let e : _≡_ {A = One} (Ok (repeated (c .in-Repeated .value) (c .in-Repeated .length), c .in-Ok .rest .now)) (run (h .w) (h .rest .now)) = sym (ap (λ r. Ok (stretch r, c .in-Ok .rest .now)) (c .in-Repeated .is)) ∙ c .in-Ok .ensures tt ∙ run-at-small (h .w) (h .rest .now) w in
     record {
       same = load-repeated (h .w) (h .left) (h .rest .now) (c .in-Ok .rest .now) (c .in-Repeated .value) (h .current) (c .in-Repeated .length) (c .min-length-in-Repeated .result) (c .pre .1 .1) (c .pre .1 .0) e (c .pre .0) (c .min-length-in-Repeated .ensures);
-      shorter = run-shorter (h .w) (h .rest .now) _ (sym e) }
+      shorter = run-shorter (h .w) (h .rest .now) _ (sym e);
+    }
 
 pub unreachable-requires : need.unreachable-requires
 unreachable-requires c κs =

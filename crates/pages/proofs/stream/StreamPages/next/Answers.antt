@@ -14,7 +14,7 @@ returns c =
     let more : 0 < length (c .args .self .now .rest .now) = search needs in
     let s = streamed-step (c .args .self .now .rest .now) more in
     let e = c .first-command .ensures in
-    record
-    { gives = rw s (ap (λ (t : Taken). Some (t .what)) e)
-    ; leaves = rw s (ap (λ (t : Taken). streamed (t .left)) e)
+    record {
+      gives = rw s (ap (λ (t : Taken). Some (t .what)) e);
+      leaves = rw s (ap (λ (t : Taken). streamed (t .left)) e);
     }

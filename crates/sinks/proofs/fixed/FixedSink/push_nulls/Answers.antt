@@ -10,18 +10,20 @@ use Rattle.sinks.proofs.fixed.FixedSink.push_nulls.Needs as need
 
 pub loop-i-again : need.loop-i-again
 loop-i-again g c = (
-    c .loop-i .inv .0,
-    length-set _ _ _ ∙ c .loop-i .inv .1,
-    c .loop-i .inv .2,
-    nulls-more (g .T·Element .int) (c .loop-i .self .memory .now) (c .loop-i .i) (c .args .self .now .used) _ _ (omega arith) (omega arith) (c .zero .ensures) (c .loop-i .inv .3))
+  c .loop-i .inv .0,
+  length-set _ _ _ ∙ c .loop-i .inv .1,
+  c .loop-i .inv .2,
+  nulls-more (g .T·Element .int) (c .loop-i .self .memory .now) (c .loop-i .i) (c .args .self .now .used) _ _ (omega arith) (omega arith) (c .zero .ensures) (c .loop-i .inv .3),
+)
 
 pub returns-after-loop-i : need.returns-after-loop-i
 returns-after-loop-i g c = record {
-    answer = sym (nulls-fit (g .T·Element .int) _ _ _ (c .args .self .now .within) (c .if-n-self .taken));
-    items = nulls-done (g .T·Element .int) _ _ (c .loop-i .i) _ _ (omega arith) (c .args .self .now .within) (c .if-n-self .taken) (c .loop-i .inv .3);
-    room = ap of-rows (c .loop-i .inv .1);
-    home = search needs;
-    kept = search needs }
+  answer = sym (nulls-fit (g .T·Element .int) _ _ _ (c .args .self .now .within) (c .if-n-self .taken));
+  items = nulls-done (g .T·Element .int) _ _ (c .loop-i .i) _ _ (omega arith) (c .args .self .now .within) (c .if-n-self .taken) (c .loop-i .inv .3);
+  room = ap of-rows (c .loop-i .inv .1);
+  home = search needs;
+  kept = search needs;
+}
 
 pub returns-else-n-self : need.returns-else-n-self
 returns-else-n-self g c =
@@ -33,4 +35,5 @@ returns-else-n-self g c =
       items = sym (joined-no f (of-rows (length (s .memory .now))) (numbers f (take (s .used) (s .memory .now))) (replicate (c .args .n) (number (pos 0))) full);
       room = refl;
       home = refl;
-      kept = λ _. refl }
+      kept = λ _. refl;
+    }
