@@ -19,7 +19,7 @@ use super::utils::with_bit;
 pub struct MutableBitmap<'a> {
     buffer: &'a mut [u8],
     used: usize,
-    ghost within: { used ≤ 8 * length (now buffer) },
+    ghost within: { used ≤ capacity (length (now buffer)) },
     ghost tidy: { Tidy used (now buffer) },
 }
 

@@ -25,7 +25,7 @@ use Rattle.holders.proofs.Spreads.{needed-all, needed-cut, first-stands, first
 use Rattle.holders.proofs.Validities.{filled-values}
 use Rattle.holders.proofs.Measures.{filled-weight, leb-same}
 use Rattle.model.proofs.Rows.{length-stands}
-use Rattle.sinks.proofs.Rooms.{fits-from}
+use Rattle.sinks.specs.Fits.{fits-from}
 use Rattle.sinks.proofs.Rows.{weights-append}
 use Rattle.holders.proofs.Lengths.{has-values, length-given, length-spread}
 

@@ -1,14 +1,17 @@
 ghost use mathlib.Core.Path.{_≡_, refl};
-ghost use Rattle.sinks.specs.Fits.{numbers-fit};
-ghost use mathlib.Core.List.{List, [], _∷_, _++_};
-ghost use Prim.Native.Nat.{ℕ, _+_, _<_, _≤_};
-ghost use lib.ListN.{length, take};
+ghost use mathlib.Core.List.{[], _∷_, _++_};
+ghost use Prim.Native.Nat.{_+_, _≤_};
+ghost use lib.Dec.{leb};
+ghost use lib.IntN.{pos};
+ghost use lib.ListN.{length, replicate, take};
 ghost use denote.Ref.{now, name};
-ghost use Rattle.values.specs.Values.{fits, joined, number};
+ghost use Rattle.values.specs.Values.{number};
 ghost use Rattle.sinks.specs.Fixed.{of-rows, numbers};
+ghost use Rattle.sinks.specs.Fits.{numbers-fit};
 use crate::pushable::Full;
 use crate::pushable::Pushable;
 use crate::pushable::Sink;
+use crate::space::has_room;
 use values::Element;
 
 // Elements in lent memory, the first `used` of it.
@@ -28,6 +31,27 @@ impl<'a, T: Element> Fixed<'a, T> {
     {
         Fixed { memory, used: 0 }
     }
+
+    // Whether there is room for one more.
+    fn has_place(&self) -> bool
+        ensures { λ r. ⌜ r ≡ leb (now (self .entry) .used + 1) (length (now (now (self .entry) .memory))) ⌝ }
+    {
+        self.used < self.memory.len()
+    }
+
+    // Appends x n times, where there is room for that.
+    fn fill(&mut self, n: usize, x: T)
+        requires { ⌜ now self .used + n ≤ length (now (now self .memory)) ⌝ }
+        ensures items { λ _. ⌜ take (now (self .exit) .used) (now (now (self .exit) .memory)) ≡ take (now (self .entry) .used) (now (now (self .entry) .memory)) ++ replicate n x ⌝ }
+        ensures room { λ _. ⌜ length (now (now (self .exit) .memory)) ≡ length (now (now (self .entry) .memory)) ⌝ }
+        ensures home { λ _. ⌜ name (now (self .exit) .memory) ≡ name (now (self .entry) .memory) ⌝ }
+    {
+        let used = self.used;
+        for i in 0..n {
+            self.memory[used + i] = x;
+        }
+        self.used = used + n;
+    }
 }
 
 pub impl<'a, T: Element> Sink for Fixed<'a, T> as FixedSink {
@@ -35,7 +59,7 @@ pub impl<'a, T: Element> Sink for Fixed<'a, T> as FixedSink {
 
     ghost items = { λ s. numbers (T·Element .int) (take (s .used) (now (s .memory))) };
 
-    ghost room = { λ s. of-rows (length (now (s .memory))) };
+    ghost room = { λ s. of-rows (length (now (s .memory))) (number (pos 0)) };
 
     ghost home = { λ s. name (s .memory) ∷ [] };
 
@@ -71,28 +95,24 @@ pub impl<'a, T: Element> Sink for Fixed<'a, T> as FixedSink {
         self.push_nulls(1)
     }
 
+    // A null has its place too, and 0 stands there.
     fn push_nulls(&mut self, n: usize) -> Result<(), Full> {
-        let used = self.used;
-        if n <= self.memory.len() - used {
-            for i in used..used + n {
-                self.memory[i] = T::zero();
-            }
-            self.used = used + n;
-            Ok(())
-        } else {
-            Err(Full)
+        let zero = T::zero();
+        if !has_room(self.used, n, self.memory.len()) {
+            return Err(Full);
         }
+        self.fill(n, zero);
+        Ok(())
     }
 }
 
 pub impl<'a, T: Element> Pushable<T> for Fixed<'a, T> as FixedPushable {
     fn push(&mut self, v: T) -> Result<(), Full> {
-        if self.used < self.memory.len() {
-            self.memory[self.used] = v;
-            self.used += 1;
-            Ok(())
-        } else {
-            Err(Full)
+        if !self.has_place() {
+            return Err(Full);
         }
+        self.memory[self.used] = v;
+        self.used += 1;
+        Ok(())
     }
 }

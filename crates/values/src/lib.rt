@@ -6,6 +6,7 @@ ghost use lib.IntN.{ℤ, pos};
 ghost use Rattle.values.specs.Values.{Seen, Value, a-number, number, weight};
 
 pub mod integers;
+pub mod kinds;
 
 // What is read out of a chunk: a number, a flag, or the place of some bytes.
 pub trait Meant {

@@ -1,31 +1,31 @@
 use borrow.Author.Needs.{needs}
-use mathlib.Core.Path.{refl, sym, ap, _∙_}
-use mathlib.Core.List.{[], _∷_, _++_}
-use lib.ListN.{length, take, length-set}
-use Rattle.values.specs.Values.{fits, joined}
-use Rattle.sinks.specs.Fixed.{of-rows, numbers}
-use Rattle.sinks.proofs.Rows.{push-fits, push-full, push-items, joined-no}
+use native.Mathlib.Omega.{arith}
+use mathlib.Core.Path.{_≡_, refl, sym, ap}
+use mathlib.Core.List.{[], _∷_}
+use mathlib.Core.Bool.{true, false}
+use Prim.Native.Nat.{_+_}
+use lib.IntN.{pos}
+use lib.ListN.{length, take, set, length-set}
+use Rattle.std.proofs.shelf.Lists.{take-more-set}
+use Rattle.std.proofs.shelf.Tests.{leb-true}
+use Rattle.values.specs.Values.{number}
+use Rattle.sinks.specs.Fixed.{of-rows}
+use Rattle.sinks.proofs.Rows.{numbers-grown}
 use Rattle.sinks.proofs.fixed.FixedPushable.push.Needs as need
 
-pub returns-then-self : need.returns-then-self
-returns-then-self g c =
-    let f = g .T·Element .int in
+pub returns-then-not-has-place : need.returns-then-not-has-place
+returns-then-not-has-place g c =
     let s = c .args .self .now in
     let m = s .memory .now in
-    let law = g .T·Element·met .value (c .args .v) in
-    record {
-      answer = sym (ap (λ x. fits (of-rows (length m)) (numbers f (take (s .used) m) ++ x ∷ [])) law ∙ push-fits f m (s .used) (c .args .v) (c .if-self .taken));
-      items = push-items f m (s .used) (c .args .v) (c .if-self .taken) ∙ sym (ap (λ x. joined (of-rows (length m)) (numbers f (take (s .used) m)) (x ∷ [])) law);
-      room = ap of-rows (length-set _ _ _);
-      home = refl;
-      kept = search needs;
-    }
+    let v = c .args .v in
+    let p = numbers-grown (g .T·Element .int) m (s .used) 1 (v ∷ []) (take (s .used) m) _ false (s .within) refl (ap (λ x. x ∷ []) (sym (g .T·Element·met .value v))) (c .if-not-has-place .ensures tt) refl in
+    record { answer = p .0; items = p .1; room = refl; home = refl; kept = λ _. refl }
 
-pub returns-else-self : need.returns-else-self
-returns-else-self g c =
-    let f = g .T·Element .int in
+pub returns : need.returns
+returns g c =
     let s = c .args .self .now in
     let m = s .memory .now in
-    let law = g .T·Element·met .value (c .args .v) in
-    let full = ap (λ x. fits (of-rows (length m)) (numbers f (take (s .used) m) ++ x ∷ [])) law ∙ push-full f m (s .used) (c .args .v) (s .within) (c .if-self .left) in
-    record { answer = sym full; items = sym (joined-no f (of-rows (length m)) _ _ full); room = refl; home = refl; kept = search needs }
+    let v = c .args .v in
+    let room = leb-true (s .used + 1) (length m) (sym (c .if-not-has-place .ensures tt)) in
+    let p = numbers-grown (g .T·Element .int) m (s .used) 1 (v ∷ []) (take (s .used + 1) (set m (s .used) v)) _ true (s .within) refl (ap (λ x. x ∷ []) (sym (g .T·Element·met .value v))) (c .if-not-has-place .ensures tt) (take-more-set m (s .used) v (omega arith)) in
+    record { answer = p .0; items = p .1; room = ap (λ n. of-rows n (number (pos 0))) (length-set _ _ _); home = refl; kept = search needs }

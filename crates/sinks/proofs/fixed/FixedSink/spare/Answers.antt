@@ -1,7 +1,9 @@
+use mathlib.Core.Path.{refl}
 use native.Mathlib.Omega.{arith}
 use lib.ListN.{take}
-use Rattle.sinks.proofs.Rows.{weights-numbers}
+use Rattle.values.specs.Values.{number}
+use Rattle.sinks.specs.Fits.{weights-free}
 use Rattle.sinks.proofs.fixed.FixedSink.spare.Needs as need
 
 pub returns : need.returns
-returns g c = omega (arith, weights-numbers (g .T·Element .int) (take (c .args .self .now .used) (c .args .self .now .memory .now)))
+returns g c = let s = c .args .self .now in omega (arith, weights-free (λ x. number (g .T·Element .int x)) (λ _. refl) (take (s .used) (s .memory .now)))
