@@ -26,6 +26,11 @@ returns-else-self g c =
     let e = c .append-required .ensures in
     let bs = g .V·Validity .bits (c .args .validity .now) in
     let us = unused-as (g .C·OverPage .value) (c .args .self .now) in
-    record { unused = e .unused; held = e .held; flag = e .flag; values = e .values;
+    record {
+      unused = e .unused;
+      held = e .held;
+      flag = e .flag;
+      values = e .values;
       bits = sym (ap (λ o. bs ++ bits-for o (take (c .args .k) us)) (c .if-self .left) ∙ append-nil bs);
-      memory = (e .memory .0, e .memory .1, refl, refl) }
+      memory = (e .memory .0, e .memory .1, refl, refl);
+    }
