@@ -75,8 +75,8 @@ fn look(
     seen: &mut Seen,
 ) -> Result<(), AllocError> {
     for i in 0..sink.len() {
-        let row = if validity.get(i) { sink.get(i) } else { None };
-        seen.rows.push(row)?;
+        let valid = <MutableBitmap<'_> as Validity>::get(validity, i);
+        seen.rows.push(if valid { sink.get(i) } else { None })?;
     }
     seen.chunks = seen.chunks.saturating_add(1);
     Ok(())
@@ -164,7 +164,8 @@ fn faulty_pages(rt: LibcRuntime) -> Result<(), Fail> {
     let seen = read_all(rt.alloc(), OPTIONAL, false, 4, 1000)?;
     check_eq(seen.faults, 1)?;
     check_eq(seen.rows.len(), 0)?;
-    let cut = read_all(rt.alloc(), &REQUIRED[0..22], false, 4, 1000)?;
+    let whole: &[u8] = REQUIRED;
+    let cut = read_all(rt.alloc(), &whole[0..22], false, 4, 1000)?;
     check_eq(cut.faults, 1)?;
     check_eq(cut.rows.len(), 0)
 }

@@ -1,5 +1,6 @@
 use crate::faulty::layer_name;
 use crate::faulty::meaning;
+use crate::layout::rows_text;
 use crate::words::Wanted;
 use bitmap::mutable::MutableBitmap;
 use deserialize::primitive::basic::Keep;
@@ -36,24 +37,19 @@ use values::integers::I32Valued;
 // The column of signed 32-bit numbers.
 type Int32<'a> = PageDecoder<'a, 4, Converted<'a, i32, Keep>>;
 
-// The rows of a chunk, between brackets.
-fn rows_text(
+// The rows of a chunk, a null where the validity has no bit.
+fn rows_of(
     heap: Global,
     sink: &mut Fixed<'_, i32>,
     validity: &mut MutableBitmap<'_>,
-) -> Result<String, AllocError> {
-    let mut text = String::from_str(heap, "[")?;
-    for i in 0..sink.len() {
-        if i > 0 {
-            text.push_str(", ")?;
-        }
-        match sink.get(i) {
-            Some(v) if validity.get(i) => text.push_str(format!(heap, "{v}")?.as_str())?,
-            _ => text.push_str("null")?,
+) -> Result<Vec<Option<i32>>, AllocError> {
+    let mut rows = vec![in heap; None; sink.len()]?;
+    for i in 0..rows.len() {
+        if <MutableBitmap<'_> as Validity>::get(validity, i) {
+            rows[i] = sink.get(i);
         }
     }
-    text.push_str("]")?;
-    Ok(text)
+    Ok(rows)
 }
 
 fn print_fault(rt: &LibcRuntime, fault: Fault) -> Result<(), AnyError> {
@@ -83,7 +79,8 @@ fn step<'a>(
         }
         MaybeNext::Chunk(ready) => {
             *chunk = chunk.saturating_add(1);
-            let text = rows_text(rt.alloc(), sink, validity)?;
+            let rows = rows_of(rt.alloc(), sink, validity)?;
+            let text = rows_text(rt.alloc(), rows.as_slice())?;
             println!(rt, "Chunk {}: {text}", *chunk)?;
             Ok(Some(take(ready, sink, validity)))
         }

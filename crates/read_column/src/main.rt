@@ -1,6 +1,7 @@
 // read_column FILE KIND optional|required CHUNK LIMIT: reads a page stream and prints its rows chunk by chunk.
 mod chunks;
 mod faulty;
+mod layout;
 mod words;
 
 use std::alloc::AllocError;
