@@ -1,4 +1,6 @@
 // What a program around the reader needs: the words of its command line, the heads of a directory, and chunks as text.
+#![tactic(auto)]
+
 pub mod decimal;
 pub mod faulty;
 pub mod heads;

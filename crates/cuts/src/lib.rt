@@ -1,3 +1,5 @@
 // One page cut at every row: whatever the chunk size, the rows are the same.
+#![tactic(auto)]
+
 #[cfg(test)]
 mod page;

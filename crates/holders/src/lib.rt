@@ -1,4 +1,6 @@
 // The page and the dictionary that a read holds: checked whole before the first row is used, then handed out value by value.
+#![tactic(auto)]
+
 mod arrays;
 mod checks;
 pub mod cursor;

@@ -1,4 +1,6 @@
 // Sources of pages: what they deliver, the page stream, and the directory.
+#![tactic(auto)]
+
 pub mod directory;
 pub mod flags;
 pub mod heads;

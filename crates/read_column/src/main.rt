@@ -1,5 +1,7 @@
 // read_column FILE KIND optional|required CHUNK LIMIT, and options: reads the pages of a column and prints its rows chunk by
 // chunk.
+#![tactic(auto)]
+
 mod chunks;
 mod columns;
 

@@ -1,4 +1,6 @@
 // Tests of bitmaps and sinks over lent memory.
+#![tactic(auto)]
+
 #[cfg(test)]
 mod bits;
 #[cfg(test)]

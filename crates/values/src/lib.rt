@@ -1,4 +1,6 @@
 // What a column's rows hold, and the numbers of fixed width that a chunk can hold.
+#![tactic(auto)]
+
 ghost use Rattle.std.specs.Prelude.{◌≡◌, ℕ, ◌<◌, ◌≤◌, List, ℤ, pos};
 ghost use Rattle.values.specs.Values.{Seen, Value, a_number, number, weight};
 
