@@ -9,5 +9,5 @@ pub returns : goal.returns
 returns c =
     let bs = c.args.bytes.now in let p = c.args.p in
     let e : p % 8 + (8 - p % 8) ≡ 8 = omega arith in
-    let small : get_or bs (p / 8) 0 < 256 = omega (arith, c.type-inv.bytes (p / 8)) in
-    eight_across bs p c.merge-reversed.result (c.merge-reversed.ensures ∙ across (get_or bs (p / 8) 0) (get_or bs (p / 8 + 1) 0) (p % 8) (8 - p % 8) small e) small
+    let small : get_or bs (p / 8) 0 < 256 = omega (arith, c.type_inv.bytes (p / 8)) in
+    eight_across bs p c.merge_reversed.result (c.merge_reversed.ensures ∙ across (get_or bs (p / 8) 0) (get_or bs (p / 8 + 1) 0) (p % 8) (8 - p % 8) small e) small

@@ -7,5 +7,5 @@ invariant-loop-i l =
     (l.self.used ≡ l.initial.self.used + 8 * l.i)
     × (bits l.self.used l.self.buffer.now ≡ bits l.initial.self.used l.initial.self.buffer.now ++ part l.p (8 * l.i) l.bytes)
     × (length l.self.buffer.now ≡ length l.initial.self.buffer.now)
-    × (l.self.buffer.name ≡ l.initial.self.buffer.name)
+    × (l.self.buffer.ghost_name ≡ l.initial.self.buffer.ghost_name)
     × ((j : ℕ) → (l.self.used + 7) / 8 ≤ j → get_or l.self.buffer.now j 0 ≡ get_or l.initial.self.buffer.now j 0)

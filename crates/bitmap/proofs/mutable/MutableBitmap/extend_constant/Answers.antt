@@ -18,7 +18,7 @@ returns c =
     let gap = (8 - s.used % 8) % 8 in
     let left = n - gap in
     let all : s.used + n ≤ capacity (length s.buffer.now) = omega (arith, c.capacity.ensures, c.if-n-capacity.false) in
-    let e2 = c.extend-constant-bits-2.ensures in let ew = c.whole-bytes.ensures in let e3 = c.extend-constant-bits-3.ensures in
+    let e2 = c.extend_constant_bits-2.ensures in let ew = c.whole_bytes.ensures in let e3 = c.extend_constant_bits-3.ensures in
     let sum : gap + 8 * (left / 8) + left % 8 ≡ n = omega arith in
     record {
       answer = sym (le-leb (s.used + n) (capacity (length s.buffer.now)) all);
@@ -27,8 +27,8 @@ returns c =
       room = e3.room ∙ ew.room ∙ e2.room;
       home = e3.home ∙ ew.home ∙ e2.home;
       beyond = λ j h.
-          let h₃ = beyond_fewer c.whole-bytes.new.self.used c.extend-constant-bits-3.new.self.used j (omega (arith, e3.count)) h in
-          let h₂ = beyond_fewer c.extend-constant-bits-2.new.self.used c.whole-bytes.new.self.used j (omega (arith, ew.count)) h₃ in
+          let h₃ = beyond_fewer c.whole_bytes.new.self.used c.extend_constant_bits-3.new.self.used j (omega (arith, e3.count)) h in
+          let h₂ = beyond_fewer c.extend_constant_bits-2.new.self.used c.whole_bytes.new.self.used j (omega (arith, ew.count)) h₃ in
           e3.beyond j h ∙ ew.beyond j h₃ ∙ e2.beyond j h₂;
       kept = λ e. absurd (true≢false e);
     }

@@ -34,7 +34,7 @@ returns c =
     let all : s.used + n ≤ cap = omega arith in
     let src : o + n ≤ held = omega arith in
     let over : gap < n = c.if-n-gap.false in
-    let e2 = c.extend-from-slice-bits-2.ensures in let ew = c.bytes-from.ensures in let e3 = c.extend-from-slice-bits-3.ensures in
+    let e2 = c.extend_from_slice_bits-2.ensures in let ew = c.bytes_from.ensures in let e3 = c.extend_from_slice_bits-3.ensures in
     record {
       answer = sym (sliced_ok held cap s.used o n src all);
       count = total-is s.used n gap _ _ _ over e2.count ew.count e3.count;
@@ -42,8 +42,8 @@ returns c =
       room = e3.room ∙ ew.room ∙ e2.room;
       home = e3.home ∙ ew.home ∙ e2.home;
       beyond = λ j h.
-          let h₃ = beyond_fewer c.bytes-from.new.self.used c.extend-from-slice-bits-3.new.self.used j (omega (arith, e3.count)) h in
-          let h₂ = beyond_fewer c.extend-from-slice-bits-2.new.self.used c.bytes-from.new.self.used j (omega (arith, ew.count)) h₃ in
+          let h₃ = beyond_fewer c.bytes_from.new.self.used c.extend_from_slice_bits-3.new.self.used j (omega (arith, e3.count)) h in
+          let h₂ = beyond_fewer c.extend_from_slice_bits-2.new.self.used c.bytes_from.new.self.used j (omega (arith, ew.count)) h₃ in
           e3.beyond j h ∙ ew.beyond j h₃ ∙ e2.beyond j h₂;
       kept = λ e. absurd (true≢false e);
     }

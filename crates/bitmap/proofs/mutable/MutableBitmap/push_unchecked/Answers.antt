@@ -6,13 +6,10 @@ use Rattle.bitmap.proofs.mutable.MutableBitmap.push_unchecked.Goals as goal
 inside : (n m : ℕ) → n < capacity m → n / 8 < m
 inside n m h = omega arith
 
-pub invariant-of-self : goal.invariant-of-self
-invariant-of-self c =
+pub invariant_of-self : goal.invariant_of-self
+invariant_of-self c =
     let bs = c.args.self.now.buffer.now in let n = c.args.self.now.used in
-    let w = inside n (length bs) c.requires in (
-      omega (arith, length-set bs (n / 8) c.with-bit.result),
-      (subst (λ t. Tidy (n + 1) (set bs (n / 8) t)) (sym c.with-bit.ensures) (tidy_pushed bs n c.args.value w), tt),
-    )
+    let w = inside n (length bs) c.requires in record { within = omega (arith, length-set bs (n / 8) c.with_bit.result); tidy = subst (λ t. Tidy (n + 1) (set bs (n / 8) t)) (sym c.with_bit.ensures) (tidy_pushed bs n c.args.value w) }
 
 pub returns : goal.returns
 returns c =
@@ -20,8 +17,8 @@ returns c =
     let w = inside n (length bs) c.requires in
     record {
       count = refl;
-      items = ap (λ t. bits (n + 1) (set bs (n / 8) t)) c.with-bit.ensures ∙ bits_pushed bs n c.args.value w;
+      items = ap (λ t. bits (n + 1) (set bs (n / 8) t)) c.with_bit.ensures ∙ bits_pushed bs n c.args.value w;
       room = length-set _ _ _;
       home = refl;
-      beyond = λ j h. beyond_set bs n (n + 1) j c.with-bit.result (omega arith) h;
+      beyond = λ j h. beyond_set bs n (n + 1) j c.with_bit.result (omega arith) h;
     }

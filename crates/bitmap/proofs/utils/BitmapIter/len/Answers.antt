@@ -6,4 +6,4 @@ use Rattle.bitmap.proofs.utils.BitmapIter.len.Goals as goal
 pub returns : goal.returns
 returns c =
     let s = c.args.self.now in
-    c.saturating-sub.ensures ∙ sym (length-map-range_with_len (bit_at s.bytes.now) s.index (s.end - s.index))
+    c.saturating_sub.ensures ∙ sym (length-map-range_with_len (bit_at s.bytes.now) s.index (s.end - s.index))

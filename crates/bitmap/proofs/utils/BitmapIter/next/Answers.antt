@@ -8,6 +8,6 @@ returns c =
     let s = c.args.self.now in
     let e = part_first s.index s.end s.bytes.now c.if-self.false in
     record {
-      given = ap Some c.get-bit.ensures ∙ sym (ap first e);
+      given = ap Some c.get_bit.ensures ∙ sym (ap first e);
       after = sym (ap rest e);
     }
