@@ -11,7 +11,7 @@ returns-then-get g c =
     let s = shown_row vs bs c.args.i c.requires in
     let e : text_at vs c.args.i ≡ row_at_text (rows_in vs bs) c.args.i
     = ap (λ b. cond b (text_at vs c.args.i) (codes "null")) c.if-get.ensures.answer ∙ sym s in
-    record { text = made_as string_bytes _ _ _ c.text_of_value.ensures.text e; sink = search rules; validity = search rules }
+    record { text = made_as string_bytes _ _ _ c.value_text.ensures.text e; sink = search rules; validity = search rules }
 
 pub returns-else-get : goal.returns-else-get
 returns-else-get g c =

@@ -17,8 +17,8 @@ loop-i-preserved g c =
     ∙ ap (λ s. row_at_text (rows_in (g.P.Sink.items s) (g.V.Validity.bits c.loop-i.validity)) c.loop-i.i) c.loop-i.invariant.1
     ∙ ap (λ v. row_at_text (rows_in vs (g.V.Validity.bits v)) c.loop-i.i) c.loop-i.invariant.2 in (
       laid_on (string_bytes c.loop-i.text) (codes "[") _ _ (rows_in vs bs) c.loop-i.i l c.loop-i.invariant.0 (c.as-str.ensures.value ∙ row) (c.in-ok-put-row.ensures refl),
-      c.text_of_row.ensures.sink ∙ c.loop-i.invariant.1,
-      c.text_of_row.ensures.validity ∙ c.loop-i.invariant.2,
+      c.row_text.ensures.sink ∙ c.loop-i.invariant.1,
+      c.row_text.ensures.validity ∙ c.loop-i.invariant.2,
     )
 
 pub returns : goal.returns

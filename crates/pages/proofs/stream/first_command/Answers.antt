@@ -1,5 +1,5 @@
 use Rattle.std.proofs.Common.{◌≡◌, ℕ, ◌-◌, ◌≤◌, true, false, eqb, ltb, List, length, get_or, take, drop, sym, refl, ap, ◌∙◌, arith, rules, ltb-false}
-use Rattle.pages.proofs.stream.first_command.Goals.{then-bytes-lt11+in-68·, else-bytes-lt11+in-68·}
+use Rattle.pages.proofs.stream.first_command.Goals.{then-bytes-lt11+in-68-1, else-bytes-lt11+in-68-1}
 use Rattle.std.proofs.lemmas.Bool.{le-ltb}
 use Rattle.std.proofs.lemmas.Slice.{between_to_end}
 use Rattle.pages.specs.Commands.{Taken, le32, command, dictionary_page_of, data_page_of}
@@ -22,12 +22,12 @@ pub returns-in-80 : goal.returns-in-80
 returns-in-80 c =
     let f : get_or c.args.bytes.now 0 0 ≡ 80 = search rules in
     let l : 11 ≤ length c.args.bytes.now = omega (arith, ltb-false) in
-    c.data_page_of.ensures
-    ∙ data-at c.args.bytes.now _ _ f l c.from-le-bytes-rows.ensures c.from-le-bytes-n.ensures
+    c.data_body.ensures
+    ∙ data-at c.args.bytes.now _ _ f l c.from_le_bytes-rows.ensures c.from_le_bytes-n.ensures
 
 pub returns-in-68 : goal.returns-in-68
 returns-in-68 c =
     let f : get_or c.args.bytes.now 0 0 ≡ 68 = grind arith in
     let l : 9 ≤ length c.args.bytes.now = omega (arith, ltb-false) in
-    c.dictionary_page_of.ensures
-    ∙ dict_at c.args.bytes.now _ _ f l c.from-le-bytes-entries.ensures c.from-le-bytes-n-in-68.ensures
+    c.dict_body.ensures
+    ∙ dict_at c.args.bytes.now _ _ f l c.from_le_bytes-entries.ensures c.from_le_bytes-n-in-68.ensures

@@ -9,6 +9,6 @@ returns-in-None c =
 pub returns-in-Some : goal.returns-in-Some
 returns-in-Some c =
     record {
-      text = made_as string_bytes _ _ _ c.from-str-in-Some.ensures.ok (c.text_of_flag.ensures ∙ sym (shown_flag 0 _ c.args.i c.in-Some.flag (sym c.in-Some.ensures.answer)));
+      text = made_as string_bytes _ _ _ c.from-str-in-Some.ensures.ok (c.flag_text.ensures ∙ sym (shown_flag 0 _ c.args.i c.in-Some.flag (sym c.in-Some.ensures.answer)));
       same = search rules;
     }

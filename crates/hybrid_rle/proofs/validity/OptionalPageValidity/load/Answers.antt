@@ -6,12 +6,12 @@ use Rattle.hybrid_rle.specs.Borrowed.{stretch}
 use Rattle.hybrid_rle.proofs.Pieces.{packed_on, repeated_on, packed_room}
 use Rattle.hybrid_rle.proofs.validity.OptionalPageValidity.load.Goals as goal
 
-pub invariant-of-self : goal.invariant-of-self
-invariant-of-self c =
+pub invariant_of-self : goal.invariant_of-self
+invariant_of-self c =
     let e : ◌≡◌ {A = One} (Ok (packed c.in-Bitmap.bytes.now c.in-Bitmap.length, c.in-Ok.rest.now)) (run 1 c.args.self.now.rest.now) = sym (ap (λ r. Ok (stretch r, c.in-Ok.rest.now)) c.in-Bitmap.is) ∙ c.in-Ok.ensures in
     let o = packed_on c.args.self.now.left c.in-Bitmap.length c.args.self.now.rest.now c.in-Bitmap.bytes.now c.in-Ok.rest.now c.min-length.result c.requires.1 e c.args.self.now.gives c.min-length.ensures in
     let r = packed_room c.args.self.now.rest.now c.in-Bitmap.bytes.now c.in-Ok.rest.now c.in-Bitmap.length e in
-    (o.1, (omega arith, (omega arith, tt)))
+    record { gives = o.1; whole = omega arith; near = omega arith }
 
 pub returns-in-Bitmap : goal.returns-in-Bitmap
 returns-in-Bitmap c =
@@ -19,11 +19,11 @@ returns-in-Bitmap c =
     let o = packed_on c.args.self.now.left c.in-Bitmap.length c.args.self.now.rest.now c.in-Bitmap.bytes.now c.in-Ok.rest.now c.min-length.result c.requires.1 e c.args.self.now.gives c.min-length.ensures in
     record { same = o.0 ∙ sym (ap (λ x. held x ++ later c.args.self.now.left c.args.self.now.rest.now) c.requires.0); some = search rules }
 
-pub invariant-of-self-in-Repeated : goal.invariant-of-self-in-Repeated
-invariant-of-self-in-Repeated c =
+pub invariant_of-self-in-Repeated : goal.invariant_of-self-in-Repeated
+invariant_of-self-in-Repeated c =
     let e : ◌≡◌ {A = One} (Ok (repeated c.in-Repeated.value c.in-Repeated.length, c.in-Ok.rest.now)) (run 1 c.args.self.now.rest.now) = sym (ap (λ r. Ok (stretch r, c.in-Ok.rest.now)) c.in-Repeated.is) ∙ c.in-Ok.ensures in
     let o = repeated_on c.args.self.now.left c.in-Repeated.length c.in-Repeated.value c.args.self.now.rest.now c.in-Ok.rest.now c.min-length-in-Repeated.result c.requires.1 e c.args.self.now.gives c.min-length-in-Repeated.ensures in
-    (o.1, (omega arith, (omega arith, tt)))
+    record { gives = o.1; whole = omega arith; near = omega arith }
 
 pub returns-in-Repeated : goal.returns-in-Repeated
 returns-in-Repeated c =

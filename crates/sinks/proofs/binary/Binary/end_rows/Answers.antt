@@ -7,7 +7,7 @@ pub loop-i-preserved : goal.loop-i-preserved
 loop-i-preserved c =
     let s = c.args.self.now in
     let i = c.loop-i.invariant in
-    let e = c.end-row.ensures in
+    let e = c.end_row.ensures in
     let xs = strings s.rows s.offsets.now s.bytes.now in (
       omega (arith, e.count.0, i.0),
       omega (arith, e.count.1, i.1),

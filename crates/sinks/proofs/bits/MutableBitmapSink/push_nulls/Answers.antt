@@ -10,7 +10,7 @@ use Rattle.sinks.proofs.bits.MutableBitmapSink.push_nulls.Goals as goal
 pub returns : goal.returns
 returns c =
     let s = c.args.self.now in
-    let e = c.extend-constant.ensures in
+    let e = c.extend_constant.ensures in
     let n = c.args.n in
     let p = grown flag (λ _. refl) (capacity (length s.buffer.now)) s.used n (flag false) (bits s.used s.buffer.now) (replicate n false) _ _ _ (length_bits _ _) (length-replicate n false) (map_replicate flag n false) e.answer e.items in
     record {

@@ -6,7 +6,7 @@ use Rattle.sinks.proofs.bits.MutableBitmapValidity.extend_constant.Goals as goal
 pub returns : goal.returns
 returns c =
     let s = c.args.self.now in
-    let e = c.extend-constant.ensures in
+    let e = c.extend_constant.ensures in
     let t = c.told.ensures in
     let xs = bits s.used s.buffer.now in
     record {

@@ -7,7 +7,7 @@ use Rattle.sinks.proofs.bits.MutableBitmapValidity.extend_from_slice.Goals as go
 pub returns : goal.returns
 returns c =
     let s = c.args.self.now in
-    let e = c.extend-from-slice.ensures in
+    let e = c.extend_from_slice.ensures in
     record {
       answer = e.answer ∙ ap (λ t. sliced (capacity (length c.args.bytes.now)) (capacity (length s.buffer.now)) t c.args.offset c.args.n) (sym (length_bits s.used s.buffer.now));
       bits = e.items;

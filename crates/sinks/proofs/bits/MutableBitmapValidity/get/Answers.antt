@@ -6,4 +6,4 @@ use Rattle.sinks.proofs.bits.MutableBitmapValidity.get.Goals as goal
 pub returns : goal.returns
 returns c =
     let s = c.args.self.now in
-    record { answer = c.unwrap-or.ensures ∙ ap (λ o. unwrap_or o true) c.get.ensures ∙ bit_read (bit_at s.buffer.now) s.used c.args.i; same = refl }
+    record { answer = c.unwrap_or.ensures ∙ ap (λ o. unwrap_or o true) c.get.ensures ∙ bit_read (bit_at s.buffer.now) s.used c.args.i; same = refl }
