@@ -18,4 +18,4 @@ mod split;
 pub mod table;
 mod take;
 pub mod types;
-mod values;
+mod value_checks;

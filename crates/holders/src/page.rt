@@ -6,7 +6,7 @@ ghost use Rattle.holders.specs.Shapes.{shown, sure, if_ok, number_in};
 use crate::checks::{encoded, few, flagged};
 use crate::split::split;
 use crate::types::{Dict, Form, Values};
-use crate::values::checked;
+use crate::value_checks::checked;
 use faults::types::Cause;
 use hybrid_rle::validity::OptionalPageValidity;
 use pages::page::DataPage;

@@ -5,7 +5,7 @@ ghost use Rattle.holders.specs.Shapes.{seen, count_in, if_ok};
 
 use crate::arrays::counted;
 use crate::present::present_rows;
-use crate::values::caused;
+use crate::value_checks::caused;
 use faults::types::Cause;
 use hybrid_rle::validity::OptionalPageValidity;
 

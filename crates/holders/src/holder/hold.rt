@@ -8,7 +8,7 @@ use crate::checks::{coded, few, form_of};
 use crate::page::checked_page;
 use crate::page_values::PageValues;
 use crate::types::{Dict, Values};
-use crate::values::entries_fit;
+use crate::value_checks::entries_fit;
 use faults::types::Cause;
 use hybrid_rle::validity::OptionalPageValidity;
 use pages::page::{DataPage, Delivery, DictPage};

@@ -2,8 +2,8 @@ use Rattle.std.proofs.Common.{◌≡◌, ◌+◌, ◌-◌, ◌*◌, take, drop, 
 use Rattle.holders.proofs.Nth.{part_there}
 use Rattle.holders.proofs.entry.part_at.Goals as goal
 
-pub slice-bounds-result-end : goal.slice-bounds-result-end
-slice-bounds-result-end c = omega (arith, (part_there c.args.w c.args.n c.args.i c.args.bytes.now c.requires.0 c.requires.1.0).0)
+pub slice_bounds-result-end : goal.slice_bounds-result-end
+slice_bounds-result-end c = omega (arith, (part_there c.args.w c.args.n c.args.i c.args.bytes.now c.requires.0 c.requires.1.0).0)
 
 pub returns : goal.returns
 returns c =

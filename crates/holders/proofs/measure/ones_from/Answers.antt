@@ -5,4 +5,4 @@ use Rattle.holders.proofs.Measures.{needed_byte}
 use Rattle.holders.proofs.measure.ones_from.Goals as goal
 
 pub loop-i-preserved : goal.loop-i-preserved
-loop-i-preserved c = needed_byte (bits c.args.bytes.now c.args.offset c.loop-i.i) _ c.get-bit.result c.loop-i.count c.loop-i.i (bits_one c.args.bytes.now c.args.offset c.loop-i.i c.get-bit.result c.get-bit.ensures) c.loop-i.invariant.0 c.loop-i.invariant.1
+loop-i-preserved c = needed_byte (bits c.args.bytes.now c.args.offset c.loop-i.i) _ c.get_bit.result c.loop-i.count c.loop-i.i (bits_one c.args.bytes.now c.args.offset c.loop-i.i c.get_bit.result c.get_bit.ensures) c.loop-i.invariant.0 c.loop-i.invariant.1

@@ -7,7 +7,7 @@ use Rattle.holders.proofs.measure.weigh_within.Goals as goal
 
 pub unreachable-requires : goal.unreachable-requires
 unreachable-requires g c =
-    let s = some_left (g.C.Cursor.left c.args.values.now) c.loop-i.i (c.in-default.ensures.given ∙ ap first c.loop-i.invariant.0) in
+    let s = some_left (g.C.Cursor.left c.args.values.now) c.loop-i.i (c.in_default.ensures.given ∙ ap first c.loop-i.invariant.0) in
     omega (arith, c.requires, c.loop-i-test.true)
 
 pub returns-then-k-spare : goal.returns-then-k-spare

@@ -6,17 +6,17 @@ use Rattle.holders.specs.Counts.{tallied}
 use Rattle.holders.proofs.Tally.{plus, plus_plus, tally_more, tally_least, run_room}
 use Rattle.holders.proofs.present.present_rows.Goals as goal
 
-pub run-ones-requires : goal.run-ones-requires
-run-ones-requires c = run_room c.loop-left.rest.now c.in-ok-run.run' _ c.in-ok-run.ensures
+pub run_ones-requires : goal.run_ones-requires
+run_ones-requires c = run_room c.loop-left.rest.now c.in_ok-run.run' _ c.in_ok-run.ensures
 
-pub overflow-add-n : goal.overflow-add-n
-overflow-add-n c = let l = tally_least c.loop-left.left (stretch c.in-ok-run.run') _ _ c.in-ok-k.ensures in omega arith
+pub overflow_add-n : goal.overflow_add-n
+overflow_add-n c = let l = tally_least c.loop-left.left (stretch c.in_ok-run.run') _ _ c.in_ok-k.ensures in omega arith
 
 pub loop-left-smaller : goal.loop-left-smaller
-loop-left-smaller c = run_shorter 1 c.loop-left.rest.now _ (sym c.in-ok-run.ensures)
+loop-left-smaller c = run_shorter 1 c.loop-left.rest.now _ (sym c.in_ok-run.ensures)
 
 pub loop-left-preserved : goal.loop-left-preserved
 loop-left-preserved c =
-    let l = tally_least c.loop-left.left (stretch c.in-ok-run.run') _ _ c.in-ok-k.ensures in
-    let m = tally_more c.loop-left.left c.loop-left.rest.now (stretch c.in-ok-run.run') _ _ _ c.loop-left-test.true c.in-ok-run.ensures c.in-ok-k.ensures in
-    (omega arith, c.loop-left.invariant.1 ∙ ap (plus c.loop-left.n) m ∙ plus_plus c.loop-left.n c.in-ok-k.more _)
+    let l = tally_least c.loop-left.left (stretch c.in_ok-run.run') _ _ c.in_ok-k.ensures in
+    let m = tally_more c.loop-left.left c.loop-left.rest.now (stretch c.in_ok-run.run') _ _ _ c.loop-left-test.true c.in_ok-run.ensures c.in_ok-k.ensures in
+    (omega arith, c.loop-left.invariant.1 ∙ ap (plus c.loop-left.n) m ∙ plus_plus c.loop-left.n c.in_ok-k.more _)

@@ -9,8 +9,8 @@ next-i-requires c =
     let s = subst (λ v. is_some (values_left c.args.form c.args.n v) ≡ true) c.in-Coded.is c.requires.0 in
     some_index (dict_entries c.args.form c.in-Coded.dict) (indices_left c.in-Coded.indices) c.args.n s c.requires.1.0
 
-pub entry-bytes-requires : goal.entry-bytes-requires
-entry-bytes-requires c =
+pub entry_bytes-requires : goal.entry_bytes-requires
+entry_bytes-requires c =
     let s = subst (λ v. is_some (values_left c.args.form c.args.n v) ≡ true) c.in-Coded.is c.requires.0 in
     let eo = dict_entries c.args.form c.in-Coded.dict in
     let ie = indices_left c.in-Coded.indices in
@@ -21,4 +21,4 @@ returns-in-Coded c =
     let s = subst (λ v. is_some (values_left c.args.form c.args.n v) ≡ true) c.in-Coded.is c.requires.0 in
     let eo = dict_entries c.args.form c.in-Coded.dict in
     let ie = indices_left c.in-Coded.indices in
-    coded_front eo _ ie c.args.n c.next-i.result _ c.next-i.ensures s c.requires.1.0 c.entry-bytes.ensures ∙ sym (ap (values_left c.args.form c.args.n) c.in-Coded.is)
+    coded_front eo _ ie c.args.n c.next-i.result _ c.next-i.ensures s c.requires.1.0 c.entry_bytes.ensures ∙ sym (ap (values_left c.args.form c.args.n) c.in-Coded.is)

@@ -7,7 +7,7 @@ pub append-optional-requires : goal.append-optional-requires
 append-optional-requires g c =
     let bs = g.V.Validity.bits c.args.validity.now in
     let n = g.V.Validity.room c.args.validity.now in
-    (omega arith, ((refl, tt), (c.if-self.true, (c.requires.rows, (c.requires.fits, subst (λ o. bits_due o (length bs + c.args.k) ≤ n) c.if-self.true c.requires.bits)))))
+    λ _. (omega arith, ((refl, tt), (c.if-self.true, (c.requires.rows, (c.requires.fits, subst (λ o. bits_due o (length bs + c.args.k) ≤ n) c.if-self.true c.requires.bits)))))
 
 pub append-required-requires : goal.append-required-requires
 append-required-requires g c = (omega arith, ((refl, tt), (c.if-self.false, (c.requires.rows, c.requires.fits))))

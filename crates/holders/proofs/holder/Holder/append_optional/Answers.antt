@@ -7,8 +7,8 @@ use Rattle.holders.specs.Filled.{filled, Able}
 use Rattle.holders.proofs.Keeps.{rows_there, values_there, stands_flat, bits_flat, optional_left}
 use Rattle.holders.proofs.holder.Holder.append_optional.Goals as goal
 
-pub extend-from-decoder-requires : goal.extend-from-decoder-requires
-extend-from-decoder-requires g c =
+pub extend_from_decoder-requires : goal.extend_from_decoder-requires
+extend_from_decoder-requires g c =
     let h = c.args.self.now in
     let f = g.C.OverPage.value in
     let r = g.P.Sink.room c.args.sink.now in
@@ -22,13 +22,13 @@ extend-from-decoder-requires g c =
       space = c.requires.bits;
     }
 
-pub invariant-of-self : goal.invariant-of-self
-invariant-of-self g c =
+pub invariant_of-self : goal.invariant_of-self
+invariant_of-self g c =
     let h = c.args.self.now in
     let k = c.args.k in
-    let e = c.extend-from-decoder.ensures in
-    let l = optional_left h g.C.OverPage.value k c.requires.rows c.requires.flag c.extend-from-decoder.new.page c.rest.result e.page (c.rest.ensures ∙ e.left ∙ ap (drop (needed (take k (flat (to_come h.validity))))) c.load.ensures) in
-    (h.dictionary, (l.page, (l.count, tt)))
+    let e = c.extend_from_decoder.ensures in
+    let l = optional_left h g.C.OverPage.value k c.requires.rows c.requires.flag c.extend_from_decoder.new.page c.rest.result e.page (c.rest.ensures ∙ e.left ∙ ap (drop (needed (take k (flat (to_come h.validity))))) c.load.ensures) in
+    record { dictionary = h.dictionary; page = l.page; count = l.count }
 
 pub returns : goal.returns
 returns g c =
@@ -36,8 +36,8 @@ returns g c =
     let f = g.C.OverPage.value in
     let r = g.P.Sink.room c.args.sink.now in
     let k = c.args.k in
-    let e = c.extend-from-decoder.ensures in
-    let l = optional_left h f k c.requires.rows c.requires.flag c.extend-from-decoder.new.page c.rest.result e.page (c.rest.ensures ∙ e.left ∙ ap (drop (needed (take k (flat (to_come h.validity))))) c.load.ensures) in
+    let e = c.extend_from_decoder.ensures in
+    let l = optional_left h f k c.requires.rows c.requires.flag c.extend_from_decoder.new.page c.rest.result e.page (c.rest.ensures ∙ e.left ∙ ap (drop (needed (take k (flat (to_come h.validity))))) c.load.ensures) in
     record {
       unused = l.rows;
       held = refl;

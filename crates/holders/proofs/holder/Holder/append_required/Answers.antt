@@ -3,8 +3,8 @@ use Rattle.values.specs.Values.{fits}
 use Rattle.holders.proofs.Keeps.{all_there, stands_all, required_left}
 use Rattle.holders.proofs.holder.Holder.append_required.Goals as goal
 
-pub extend-required-requires : goal.extend-required-requires
-extend-required-requires g c =
+pub extend_required-requires : goal.extend_required-requires
+extend_required-requires g c =
     let h = c.args.self.now in
     let f = g.C.OverPage.value in
     let r = g.P.Sink.room c.args.sink.now in
@@ -15,12 +15,12 @@ extend-required-requires g c =
       fits = subst (λ t. fits r (g.P.Sink.items c.args.sink.now ++ take k t) ≡ true) e (sym (ap (λ t. fits r (g.P.Sink.items c.args.sink.now ++ t)) (stands_all h f k c.requires.rows c.requires.flag r.blank)) ∙ c.requires.fits);
     }
 
-pub invariant-of-self : goal.invariant-of-self
-invariant-of-self g c =
+pub invariant_of-self : goal.invariant_of-self
+invariant_of-self g c =
     let h = c.args.self.now in
     let k = c.args.k in
-    let l = required_left h g.C.OverPage.value k c.requires.rows c.requires.flag c.rest.result (c.rest.ensures ∙ c.extend-required.ensures.left ∙ ap (drop k) c.load.ensures) in
-    (h.dictionary, (l.page, (l.count, tt)))
+    let l = required_left h g.C.OverPage.value k c.requires.rows c.requires.flag c.rest.result (c.rest.ensures ∙ c.extend_required.ensures.left ∙ ap (drop k) c.load.ensures) in
+    record { dictionary = h.dictionary; page = l.page; count = l.count }
 
 pub returns : goal.returns
 returns g c =
@@ -28,7 +28,7 @@ returns g c =
     let f = g.C.OverPage.value in
     let r = g.P.Sink.room c.args.sink.now in
     let k = c.args.k in
-    let e = c.extend-required.ensures in
+    let e = c.extend_required.ensures in
     let l = required_left h f k c.requires.rows c.requires.flag c.rest.result (c.rest.ensures ∙ e.left ∙ ap (drop k) c.load.ensures) in
     record {
       unused = l.rows;

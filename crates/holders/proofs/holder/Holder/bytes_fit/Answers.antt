@@ -12,17 +12,17 @@ returns-then-light g c =
     let h = c.args.self.now in
     light_fit g.C.OverPage.value (c.light.ensures c.if-light.true) _ c.args.spare (to_give h.values)
 
-pub weigh-within-requires : goal.weigh-within-requires
-weigh-within-requires g c =
+pub weigh_within-requires : goal.weigh_within-requires
+weigh_within-requires g c =
     let h = c.args.self.now in
     let ps = present_left h.optional h.rows h.validity in
     let a = all_needed h in
     let e : needed ps ≤ length (to_give h.values) = omega arith in
-    omega (arith, c.present-among-n.ensures, ap length c.load.ensures, enough_first g.C.OverPage.value c.args.k ps (to_give h.values) e)
+    omega (arith, c.present_among-n.ensures, ap length c.load.ensures, enough_first g.C.OverPage.value c.args.k ps (to_give h.values) e)
 
 pub returns : goal.returns
 returns g c =
     let h = c.args.self.now in
-    c.weigh-within.ensures
-    ∙ ap (λ t. leb (weights (take c.present-among-n.result t)) c.args.spare) c.load.ensures
-    ∙ ap (λ n. leb (weights (take n (map g.C.OverPage.value (to_give h.values)))) c.args.spare) c.present-among-n.ensures
+    c.weigh_within.ensures
+    ∙ ap (λ t. leb (weights (take c.present_among-n.result t)) c.args.spare) c.load.ensures
+    ∙ ap (λ n. leb (weights (take n (map g.C.OverPage.value (to_give h.values)))) c.args.spare) c.present_among-n.ensures

@@ -28,8 +28,8 @@ returns-then-not-room g c =
       kept = λ _. (refl, refl, refl);
     }
 
-pub returns-then-not-bytes-fit : goal.returns-then-not-bytes-fit
-returns-then-not-bytes-fit g c =
+pub returns-then-not-bytes_fit : goal.returns-then-not-bytes_fit
+returns-then-not-bytes_fit g c =
     let h = c.args.self.now in
     let f = g.C.OverPage.value in
     let k = c.args.k in
@@ -41,7 +41,7 @@ returns-then-not-bytes-fit g c =
     let w = leb-true _ _ (each_room (leb k h.rows) (leb (c.len.result + k) c.capacity.result) (leb (bits_due h.optional (c.len-2.result + k)) c.capacity-2.result) c.if-not-room.ensures).0 in
     let said = c.if-not-room.ensures ∙ same_tests h.optional r n k h.rows c.len.result c.capacity.result c.len-2.result c.capacity-2.result us vs bs (unused_number h f) c.len.ensures c.capacity.ensures c.len-2.ensures c.capacity-2.ensures in
     record {
-      answer = c.if-not-bytes-fit.ensures ∙ bytes_same h f k w r vs c.spare.result (g.P.Sink.light c.args.sink.now) c.spare.ensures ∙ all_room (leb k (length us)) (leb (length vs + k) r.rows) (leb (bits_due h.optional (length bs + k)) n) (leb (weights vs + weights (stands r.blank (take k us))) r.bytes) said;
+      answer = c.if-not-bytes_fit.ensures ∙ bytes_same h f k w r vs c.spare.result (g.P.Sink.light c.args.sink.now) c.spare.ensures ∙ all_room (leb k (length us)) (leb (length vs + k) r.rows) (leb (bits_due h.optional (length bs + k)) n) (leb (weights vs + weights (stands r.blank (take k us))) r.bytes) said;
       unused = refl;
       held = refl;
       flag = refl;
@@ -63,9 +63,9 @@ append-requires g c =
     let w = leb-true _ _ t.0 in
     let l = leb-true (c.len.result + k) c.capacity.result t.1 in
     let b = leb-true (bits_due h.optional (c.len-2.result + k)) c.capacity-2.result t.2 in
-    let d = leb-true (weights vs + weights (stands r.blank (take k us))) r.bytes (sym (c.if-not-bytes-fit.ensures ∙ bytes_same h f k w r vs c.spare.result (g.P.Sink.light c.args.sink.now) c.spare.ensures)) in
+    let d = leb-true (weights vs + weights (stands r.blank (take k us))) r.bytes (sym (c.if-not-bytes_fit.ensures ∙ bytes_same h f k w r vs c.spare.result (g.P.Sink.light c.args.sink.now) c.spare.ensures)) in
     let e = ap (λ x. bits_due h.optional (x + k)) c.len-2.ensures in
-    (omega arith, ((refl, tt), (w, (fits_then r vs (stands r.blank (take k us)) k (stands_number h f k w r.blank) (omega (arith, c.len.ensures, c.capacity.ensures)) d, omega (arith, e, c.capacity-2.ensures)))))
+    λ _. (omega arith, ((refl, tt), (w, (fits_then r vs (stands r.blank (take k us)) k (stands_number h f k w r.blank) (omega (arith, c.len.ensures, c.capacity.ensures)) d, omega (arith, e, c.capacity-2.ensures)))))
 
 pub returns : goal.returns
 returns g c =
@@ -81,7 +81,7 @@ returns g c =
     let said = c.if-not-room.ensures ∙ same_tests h.optional r n k h.rows c.len.result c.capacity.result c.len-2.result c.capacity-2.result us vs bs (unused_number h f) c.len.ensures c.capacity.ensures c.len-2.ensures c.capacity-2.ensures in
     let e = c.append.ensures in
     record {
-      answer = c.if-not-bytes-fit.ensures ∙ bytes_same h f k w r vs c.spare.result (g.P.Sink.light c.args.sink.now) c.spare.ensures ∙ all_room (leb k (length us)) (leb (length vs + k) r.rows) (leb (bits_due h.optional (length bs + k)) n) (leb (weights vs + weights (stands r.blank (take k us))) r.bytes) said;
+      answer = c.if-not-bytes_fit.ensures ∙ bytes_same h f k w r vs c.spare.result (g.P.Sink.light c.args.sink.now) c.spare.ensures ∙ all_room (leb k (length us)) (leb (length vs + k) r.rows) (leb (bits_due h.optional (length bs + k)) n) (leb (weights vs + weights (stands r.blank (take k us))) r.bytes) said;
       unused = e.unused;
       held = e.held;
       flag = e.flag;

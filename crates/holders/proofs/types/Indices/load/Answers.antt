@@ -32,5 +32,5 @@ pub unreachable-requires : goal.unreachable-requires
 unreachable-requires c =
     let h = c.args.self.now in
     let w = (bounds h.w _ h.left h.rest.now c.requires.0).0 in
-    let e : ◌≡◌ {A = One} (Err c.in-default.field-0) (run h.w h.rest.now) = c.in-default.ensures ∙ run_at_small h.w h.rest.now w in
+    let e : ◌≡◌ {A = One} (Err c.in_default.field-0) (run h.w h.rest.now) = c.in_default.ensures ∙ run_at_small h.w h.rest.now w in
     search rules

@@ -20,8 +20,8 @@ returns-in-Repeated c =
     pop_repeated h.w c.in-Repeated.length c.in-Repeated.value h.left h.rest.now n
     ∙ sym (ap (λ x. all_to_come h.w (current_numbers h.w x) h.left h.rest.now) c.in-Repeated.is)
 
-pub overflow-add-at : goal.overflow-add-at
-overflow-add-at c =
+pub overflow_add-at : goal.overflow_add-at
+overflow_add-at c =
     let h = c.args.self.now in
     let s = subst (λ x. is_some (all_to_come h.w (current_numbers h.w x) h.left h.rest.now) ≡ true) c.in-Packed.is c.requires.0 in
     let n = subst (λ x. 0 < current_count x) c.in-Packed.is c.requires.1 in
