@@ -3,23 +3,23 @@ use Rattle.model.specs.Model.{bits_due, bits_for}
 use Rattle.holders.specs.Holding.{unused_as}
 use Rattle.holders.proofs.holder.Holder.append.Goals as goal
 
-pub append-optional-requires : goal.append-optional-requires
-append-optional-requires g c =
+pub append_optional-requires : goal.append_optional-requires
+append_optional-requires g c =
     let bs = g.V.Validity.bits c.args.validity.now in
     let n = g.V.Validity.room c.args.validity.now in
     λ _. (omega arith, ((refl, tt), (c.if-self.true, (c.requires.rows, (c.requires.fits, subst (λ o. bits_due o (length bs + c.args.k) ≤ n) c.if-self.true c.requires.bits)))))
 
-pub append-required-requires : goal.append-required-requires
-append-required-requires g c = (omega arith, ((refl, tt), (c.if-self.false, (c.requires.rows, c.requires.fits))))
+pub append_required-requires : goal.append_required-requires
+append_required-requires g c = λ _. (omega arith, ((refl, tt), (c.if-self.false, (c.requires.rows, c.requires.fits))))
 
 pub returns-then-self : goal.returns-then-self
 returns-then-self g c =
-    let e = c.append-optional.ensures in
+    let e = c.append_optional.ensures in
     record { unused = e.unused; held = e.held; flag = e.flag; values = e.values; bits = e.bits; memory = e.memory }
 
 pub returns-else-self : goal.returns-else-self
 returns-else-self g c =
-    let e = c.append-required.ensures in
+    let e = c.append_required.ensures in
     let bs = g.V.Validity.bits c.args.validity.now in
     let us = unused_as g.C.OverPage.value c.args.self.now in
     record {
