@@ -92,7 +92,7 @@ fn put_byte(text: &mut String, b: u8) -> Result<(), AllocError>
 
 // Bytes between quotes.
 fn quoted(heap: Global, bytes: &[u8]) -> Result<String, AllocError>
-    ensures { IfOk result (λ s. string_bytes s ≡ quoted-text bytes.now) }
+    ensures { IfOk result (λ s. string_bytes s ≡ quoted_text bytes.now) }
 {
     let mut text = String::from_str(heap, "\"")?;
     for i in 0..bytes.len() {

@@ -20,4 +20,4 @@ returns-else-get g c =
     let s = shown_row vs bs c.args.i c.requires in
     let e : codes "null" ≡ row_at_text (rows_in vs bs) c.args.i
     = ap (λ b. cond b (text_at vs c.args.i) (codes "null")) c.if-get.ensures.answer ∙ sym s in
-    record { text = made_as string_bytes _ _ _ c.from-str.ensures.ok e; sink = search rules; validity = search rules }
+    record { text = made_as string_bytes _ _ _ c.from_str.ensures.ok e; sink = search rules; validity = search rules }

@@ -4,7 +4,7 @@ use Rattle.cli.proofs.numbers.FixedPrinted.value_text.Goals as goal
 
 pub returns-in-None : goal.returns-in-None
 returns-in-None g c =
-    record { text = made_as string_bytes _ _ _ c.from-str.ensures.ok (shown_none 0 _ c.args.i c.in-None.ensures.answer); same = search rules }
+    record { text = made_as string_bytes _ _ _ c.from_str.ensures.ok (shown_none 0 _ c.args.i c.in-None.ensures.answer); same = search rules }
 
 pub returns-in-Some : goal.returns-in-Some
 returns-in-Some g c =
