@@ -1,90 +1,40 @@
-// read_column FILE KIND optional|required CHUNK LIMIT, and options: reads the pages of a column and prints its rows chunk by
-// chunk.
+// read_column FILE KIND optional|required CHUNK LIMIT: reads a page stream and prints its rows chunk by chunk.
 #![tactic(auto)]
 
 mod chunks;
-mod columns;
+mod faulty;
+mod layout;
+mod words;
 
 use anyhow::anyhow;
-use cli::heads::heads_of;
-use cli::options::{Column, choose_column, read_options};
-use cli::words::{Mistake, Wanted, said, understand};
-use columns::print_column;
-use pages::directory::Directory;
-use pages::heads::Head;
-use pages::stream::Stream;
+use std::alloc::AllocError;
 use std::{env, fs};
+use words::{Mistake, Wanted, understand};
 
-const USAGE: &str =
-    "usage: read_column FILE KIND optional|required CHUNK LIMIT [--conversion keep|widen|unsigned] [--directory HEADS]";
+const USAGE: &str = "usage: read_column FILE KIND optional|required CHUNK LIMIT";
 
-// The words of the command line after the program's name.
+// The words of the command line after the program's name, at most six of them.
 fn arguments(rt: &HostRuntime) -> anyhow::Result<Vec<String>> {
     let mut words = Vec::new(rt.alloc());
-    for word in env::args(rt)?.skip(1) {
+    for word in env::args(rt)?.skip(1).take(6) {
         words.push(word)?;
     }
     Ok(words)
 }
 
-// A mistake in the words as the program's error.
-fn understood<T: Drop>(r: Result<T, Mistake>) -> anyhow::Result<T> {
-    match r {
-        Ok(x) => Ok(x),
-        Err(mistake) => Err(said(mistake).into()),
-    }
-}
-
-fn print_directory<'a>(
-    rt: &HostRuntime,
-    wanted: Wanted,
-    column: Column,
-    buffer: &'a [u8],
-    heads: &'a [Head],
-) -> anyhow::Result<()> {
-    let mut source = Directory::new(buffer, heads);
-    print_column(rt, wanted, column, &mut source)
-}
-
-// The pages lie in a buffer, where the heads of another file say.
-fn read_directory(
-    rt: &HostRuntime,
-    wanted: Wanted,
-    column: Column,
-    buffer: &[u8],
-    file: &str,
-) -> anyhow::Result<()> {
-    let Ok(bytes) = fs::read(rt, file) else {
-        return Err(anyhow!("the file of heads cannot be read"));
-    };
-    let Some(heads) = heads_of(rt.alloc(), bytes.as_slice())? else {
-        return Err(anyhow!("the file of heads has no whole number of heads of 15 bytes"));
-    };
-    print_directory(rt, wanted, column, buffer, heads.as_slice())
-}
-
 fn run(rt: &HostRuntime) -> anyhow::Result<()> {
     let words = arguments(rt)?;
-    let [file, kind, flag, chunk, limit, rest @ ..] = words.as_slice() else {
+    let [file, kind, flag, chunk, limit] = words.as_slice() else {
         return Err(anyhow!("five words are wanted"));
     };
-    let wanted = understood(understand(
-        kind.as_str(),
-        flag.as_str(),
-        chunk.as_str(),
-        limit.as_str(),
-    ))?;
-    let options = understood(read_options(rest))?;
-    let column = understood(choose_column(wanted.kind, options.converts))?;
+    let wanted = match understand(kind.as_str(), flag.as_str(), chunk.as_str(), limit.as_str()) {
+        Ok(wanted) => wanted,
+        Err(mistake) => return Err(words::said(mistake).into()),
+    };
     let Ok(bytes) = fs::read(rt, file.as_str()) else {
         return Err(anyhow!("the file cannot be read"));
     };
-    match options.heads {
-        Some(i) if i < rest.len() => {
-            read_directory(rt, wanted, column, bytes.as_slice(), rest[i].as_str())
-        }
-        _ => print_column(rt, wanted, column, &mut Stream::new(bytes.as_slice())),
-    }
+    chunks::print_pages(rt, wanted, bytes.as_slice())
 }
 
 fn main(rt: HostRuntime) -> anyhow::Result<()> {
