@@ -8,6 +8,7 @@ mod words;
 
 use anyhow::anyhow;
 use std::alloc::AllocError;
+use std::process::ExitCode;
 use std::{env, fs};
 use words::{Mistake, Wanted, understand};
 
@@ -29,7 +30,10 @@ fn run(rt: &HostRuntime) -> anyhow::Result<()> {
     };
     let wanted = match understand(kind.as_str(), flag.as_str(), chunk.as_str(), limit.as_str()) {
         Ok(wanted) => wanted,
-        Err(mistake) => return Err(words::said(mistake).into()),
+        Err(mistake) => {
+            let said = words::said(mistake);
+            return Err(anyhow!("{said}"));
+        }
     };
     let Ok(bytes) = fs::read(rt, file.as_str()) else {
         return Err(anyhow!("the file cannot be read"));
@@ -37,11 +41,13 @@ fn run(rt: &HostRuntime) -> anyhow::Result<()> {
     chunks::print_pages(rt, wanted, bytes.as_slice())
 }
 
-fn main(rt: HostRuntime) -> anyhow::Result<()> {
-    let result = run(&rt);
-    if let Err(e) = &result {
-        let _ = eprintln!(rt; "read_column: {e}");
-        let _ = eprintln!(rt; "{USAGE}");
+fn main(rt: HostRuntime) -> ExitCode {
+    match run(&rt) {
+        Ok(()) => ExitCode::SUCCESS,
+        Err(e) => {
+            let _ = eprintln!(rt; "read_column: {e}");
+            let _ = eprintln!(rt; "{USAGE}");
+            ExitCode::FAILURE
+        }
     }
-    result
 }

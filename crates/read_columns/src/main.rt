@@ -1,4 +1,4 @@
-// read_column FILE KIND optional|required CHUNK LIMIT, and options: reads the pages of a column and prints its rows chunk by
+// read_columns FILE KIND optional|required CHUNK LIMIT, and options: reads the pages of a column and prints its rows chunk by
 // chunk.
 #![tactic(auto)]
 
@@ -13,10 +13,11 @@ use columns::print_column;
 use pages::directory::Directory;
 use pages::heads::Head;
 use pages::stream::Stream;
+use std::process::ExitCode;
 use std::{env, fs};
 
 const USAGE: &str =
-    "usage: read_column FILE KIND optional|required CHUNK LIMIT [--conversion keep|widen|unsigned] [--directory HEADS]";
+    "usage: read_columns FILE KIND optional|required CHUNK LIMIT [--conversion keep|widen|unsigned] [--directory HEADS]";
 
 // The words of the command line after the program's name.
 fn arguments(rt: &HostRuntime) -> anyhow::Result<Vec<String>> {
@@ -31,7 +32,10 @@ fn arguments(rt: &HostRuntime) -> anyhow::Result<Vec<String>> {
 fn understood<T: Drop>(r: Result<T, Mistake>) -> anyhow::Result<T> {
     match r {
         Ok(x) => Ok(x),
-        Err(mistake) => Err(said(mistake).into()),
+        Err(mistake) => {
+            let text = said(mistake);
+            Err(anyhow!("{text}"))
+        }
     }
 }
 
@@ -87,11 +91,13 @@ fn run(rt: &HostRuntime) -> anyhow::Result<()> {
     }
 }
 
-fn main(rt: HostRuntime) -> anyhow::Result<()> {
-    let result = run(&rt);
-    if let Err(e) = &result {
-        let _ = eprintln!(rt; "read_column: {e}");
-        let _ = eprintln!(rt; "{USAGE}");
+fn main(rt: HostRuntime) -> ExitCode {
+    match run(&rt) {
+        Ok(()) => ExitCode::SUCCESS,
+        Err(e) => {
+            let _ = eprintln!(rt; "read_columns: {e}");
+            let _ = eprintln!(rt; "{USAGE}");
+            ExitCode::FAILURE
+        }
     }
-    result
 }
