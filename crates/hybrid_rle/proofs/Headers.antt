@@ -5,7 +5,7 @@ use lib.Arith.{digits_lt}
 use Rattle.std.proofs.lemmas.Nat.{pow-add, and_mask, shl_whole, mod_below}
 use Rattle.std.proofs.lemmas.List.{drop_more}
 use Rattle.std.proofs.lemmas.Bool.Decides.{nat_tests}
-use Rattle.hybrid_rle.specs.Header.{Read, above, number, fitting, header}
+use Rattle.hybrid_rle.specs.Header.{Read, above, number}
 use Rattle.hybrid_rle.specs.declared.header.Broken.TheVariants.{Ended, Long, Large}
 
 -- what is read when `low` was read before, in n bytes

@@ -26,13 +26,13 @@ within_number (suc most) (b ∷ bs) =
     elim (ltb b 128) as (λ t. Within (suc (length bs)) (cond t (Ok (b, 1)) (above (b - 128) (number most bs))))
     [ true ↦ (omega arith, omega arith) | false ↦ within_above (b - 128) (length bs) (number most bs) (within_number most bs) ]
 
-within_fitting : (limit n : ℕ) (r : Read) → Within n r → Within n (fitting limit r)
-within_fitting limit n (Ok p) h =
-    elim (leb p.0 limit) as (λ t. Within n (cond t (Ok p) (Err Large))) [ true ↦ h | false ↦ tt ]
-within_fitting limit n (Err e) h = tt
+within_fitting : (n : ℕ) (r : Read) → Within n r → Within n (fitting r)
+within_fitting n (Ok p) h =
+    elim (ltb p.0 (2 ^ 32)) as (λ t. Within n (cond t (Ok p) (Err Large))) [ true ↦ h | false ↦ tt ]
+within_fitting n (Err e) h = tt
 
 within_header : (bs : List ℕ) → Within (length bs) (header bs)
-within_header bs = within_fitting 4294967295 (length bs) (number 5 bs) (within_number 5 bs)
+within_header bs = within_fitting (length bs) (number 5 bs) (within_number 5 bs)
 
 -- what comes after a run is shorter
 abbrev Shorter : ℕ → One → Type 0

@@ -1,5 +1,5 @@
 -- Base-128 numbers, the lowest seven bits first; the header of a run is one of at most five bytes.
-use Rattle.std.specs.Prelude.{ℕ, zero, suc, ◌+◌, ◌-◌, ◌*◌, cond, List, [], ◌∷◌, Ok, Err, Result, nat_le, nat_lt}
+use Rattle.std.specs.Prelude.{ℕ, zero, suc, ◌+◌, ◌-◌, ◌*◌, ◌^◌, cond, List, [], ◌∷◌, Ok, Err, Result, nat_le, nat_lt}
 use Rattle.hybrid_rle.specs.declared.header.Broken.{Broken}
 use Rattle.hybrid_rle.specs.declared.header.Broken.TheVariants.{Ended, Long, Large}
 
@@ -19,10 +19,15 @@ number (suc most) [] = Err Ended
 number (suc most) (b ∷ bs) = cond (nat_lt b 128) (Ok (b, 1)) (above (b - 128) (number most bs))
 
 -- a number above the limit is too large
-abbrev pub fitting : ℕ → Read → Read
-fitting limit (Ok p) = cond (nat_le p.0 limit) (Ok p) (Err Large)
-fitting limit (Err e) = Err e
+abbrev pub within_limit : ℕ → Read → Read
+within_limit limit (Ok p) = cond (nat_le p.0 limit) (Ok p) (Err Large)
+within_limit limit (Err e) = Err e
+
+-- a number of 32 bits
+abbrev pub fitting : Read → Read
+fitting (Ok p) = cond (nat_lt p.0 (2 ^ 32)) (Ok p) (Err Large)
+fitting (Err e) = Err e
 
 -- the header of a run at the front of the bytes: at most five bytes and 32 bits
 abbrev pub header : List ℕ → Read
-header bs = fitting 4294967295 (number 5 bs)
+header bs = fitting (number 5 bs)

@@ -56,7 +56,7 @@ repeated_in n w bs = cut ((w + 7) / 8) (λ xs. repeated (little xs) n) bs
 -- an odd header is half as many groups, an even one half as many times one number
 abbrev pub run_of : ℕ → List ℕ → Read → One
 run_of w bs (Err e) = Err e
-run_of w bs (Ok p) = cond (p.0 % 2 == 1) (packed_in (p.0 / 2) w (drop p.1 bs)) (repeated_in (p.0 / 2) w (drop p.1 bs))
+run_of w bs (Ok p) = cond (p.0 % 2 == 1) (cut (p.0 / 2 * w) (λ xs. packed xs (p.0 / 2 * 8)) (drop p.1 bs)) (cut ((w + 7) / 8) (λ xs. repeated (little xs) (p.0 / 2)) (drop p.1 bs))
 
 -- the run at the front of the bytes
 abbrev pub run : ℕ → List ℕ → One

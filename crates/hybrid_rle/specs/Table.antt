@@ -1,6 +1,6 @@
 -- Worked examples.
 use Rattle.std.specs.Prelude.{◌≡◌, ℕ, ◌-◌, ◌^◌, Bool, true, false, List, [], ◌∷◌, Ok, Err, refl}
-use Rattle.hybrid_rle.specs.Header.{Read, fitting, header, number}
+use Rattle.hybrid_rle.specs.Header.{Read, within_limit, header, number}
 use Rattle.hybrid_rle.specs.Runs.{runs}
 use Rattle.hybrid_rle.specs.Rows.{later}
 use Rattle.hybrid_rle.specs.declared.header.Broken.TheVariants.{Ended, Long, Large, Short, Above}
@@ -11,8 +11,8 @@ pub record Examples : Type 0 where
   pub large : header (0xFF ∷ 0xFF ∷ 0xFF ∷ 0xFF ∷ 0x1F ∷ []) ≡ Err Large
   pub long : header (0x80 ∷ 0x80 ∷ 0x80 ∷ 0x80 ∷ 0x80 ∷ 0 ∷ []) ≡ Err Long
   pub ended : header (0x80 ∷ []) ≡ Err Ended
-  pub sixty_four : fitting (2 ^ 64 - 1) (number 10 (0xFF ∷ 0xFF ∷ 0xFF ∷ 0xFF ∷ 0xFF ∷ 0xFF ∷ 0xFF ∷ 0xFF ∷ 0xFF ∷ 0x01 ∷ [])) ≡ Ok (2 ^ 64 - 1, 10)
-  pub beyond : fitting (2 ^ 64 - 1) (number 10 (0x80 ∷ 0x80 ∷ 0x80 ∷ 0x80 ∷ 0x80 ∷ 0x80 ∷ 0x80 ∷ 0x80 ∷ 0x80 ∷ 0x02 ∷ [])) ≡ Err Large
+  pub sixty_four : within_limit (2 ^ 64 - 1) (number 10 (0xFF ∷ 0xFF ∷ 0xFF ∷ 0xFF ∷ 0xFF ∷ 0xFF ∷ 0xFF ∷ 0xFF ∷ 0xFF ∷ 0x01 ∷ [])) ≡ Ok (2 ^ 64 - 1, 10)
+  pub beyond : within_limit (2 ^ 64 - 1) (number 10 (0x80 ∷ 0x80 ∷ 0x80 ∷ 0x80 ∷ 0x80 ∷ 0x80 ∷ 0x80 ∷ 0x80 ∷ 0x80 ∷ 0x02 ∷ [])) ≡ Err Large
   pub g : later 2 (0x03 ∷ 0x01 ∷ []) ≡ (true ∷ false ∷ []) ∷ []
   pub five : later 5 (0x03 ∷ 0x0D ∷ []) ≡ (true ∷ false ∷ true ∷ true ∷ false ∷ []) ∷ []
   pub indices : runs 1 (2 ^ 32 - 1) 3 (0x06 ∷ 0x01 ∷ []) ≡ Ok ((1 ∷ 1 ∷ 1 ∷ []) ∷ [])

@@ -1,5 +1,5 @@
 ghost use Rattle.std.specs.Prelude.{◌≡◌, min, Ok};
-ghost use Rattle.hybrid_rle.specs.Header.{fitting, header, number};
+ghost use Rattle.hybrid_rle.specs.Header.{within_limit, header, number};
 
 // Why there is no number or no run: the bytes end inside the number, it goes on after its last byte allowed, it is above
 // its limit, the bytes end inside the run, a repeated number is too large, or the width is above 32 bits.
@@ -15,7 +15,7 @@ pub enum Broken {
 
 // A number and the bytes it took, if it is at most the limit.
 fn limited(value: u128, taken: usize, limit: u64) -> Result<(u64, usize), Broken>
-    ensures { result ≡ fitting limit (Ok (value, taken)) }
+    ensures { result ≡ within_limit limit (Ok (value, taken)) }
 {
     if value > limit as u128 {
         return Err(Broken::Large);
@@ -26,7 +26,7 @@ fn limited(value: u128, taken: usize, limit: u64) -> Result<(u64, usize), Broken
 // The base-128 number at the front of the bytes, and how many bytes it takes: at most `most` bytes, and never more than the ten
 // that 64 bits can need, and a number of at most `limit`.
 pub fn read_number(bytes: &[u8], most: usize, limit: u64) -> Result<(u64, usize), Broken>
-    ensures { result ≡ fitting limit (number (min most 10) bytes.now) }
+    ensures { result ≡ within_limit limit (number (min most 10) bytes.now) }
 {
     let most = most.min(10);
     let mut value: u128 = 0;

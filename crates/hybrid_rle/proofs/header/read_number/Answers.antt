@@ -1,12 +1,12 @@
 use Rattle.std.proofs.Common.{◌≡◌, ◌≤◌, min, sym, ap, ◌∙◌, arith}
-use Rattle.hybrid_rle.specs.Header.{fitting, number}
+use Rattle.hybrid_rle.specs.Header.{within_limit, number}
 use Rattle.hybrid_rle.proofs.Headers.{last_digit, more_digits, digits_below, cut_off}
 use Rattle.hybrid_rle.proofs.header.read_number.Goals as goal
 
 pub returns-then-at-bytes : goal.returns-then-at-bytes
 returns-then-at-bytes c =
     let e = cut_off c.args.bytes.now c.min-most.result c.loop-at.at c.loop-at.value (omega arith) (omega arith) c.loop-at.invariant.1 in
-    sym (ap (λ n. fitting c.args.limit (number n c.args.bytes.now)) (sym c.min-most.ensures) ∙ ap (fitting c.args.limit) e)
+    sym (ap (λ n. within_limit c.args.limit (number n c.args.bytes.now)) (sym c.min-most.ensures) ∙ ap (within_limit c.args.limit) e)
 
 pub returns-then-b-lt128 : goal.returns-then-b-lt128
 returns-then-b-lt128 c =
@@ -14,7 +14,7 @@ returns-then-b-lt128 c =
     let few : c.min-most.result ≤ 10 = omega arith in
     let e = last_digit c.args.bytes.now c.min-most.result c.loop-at.at c.loop-at.value few (omega arith) (omega arith) (omega arith) c.loop-at.invariant.1 (omega arith) in
     c.limited.ensures
-    ∙ sym (ap (λ n. fitting c.args.limit (number n c.args.bytes.now)) (sym m) ∙ ap (fitting c.args.limit) e)
+    ∙ sym (ap (λ n. within_limit c.args.limit (number n c.args.bytes.now)) (sym m) ∙ ap (within_limit c.args.limit) e)
 
 pub loop-at-preserved : goal.loop-at-preserved
 loop-at-preserved c =
