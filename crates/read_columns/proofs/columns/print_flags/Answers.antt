@@ -1,5 +1,5 @@
 use Rattle.std.proofs.Common.{refl}
-use Rattle.read_column.proofs.columns.print_flags.Goals as goal
+use Rattle.read_columns.proofs.columns.print_flags.Goals as goal
 
-pub print-chunks-requires : goal.print-chunks-requires
-print-chunks-requires g c = (refl, tt)
+pub print_chunks-requires : goal.print_chunks-requires
+print_chunks-requires g c = λ _. (refl, tt)
