@@ -1,5 +1,5 @@
 -- The faults: every case with its number and its layer.
-use Rattle.std.specs.Prelude.{ℕ, Bool, true, false, cond, eqb, List, Ok, Err, Result}
+use Rattle.std.specs.Prelude.{ℕ, Ok, Err, Result}
 use Rattle.faults.specs.declared.types.Layer.{Layer}
 use Rattle.faults.specs.declared.types.Layer.TheVariants as layer
 use Rattle.faults.specs.declared.types.Cause.{Cause}

@@ -1,12 +1,12 @@
 -- Laws of the header's number.
-use Rattle.std.proofs.Common.{◌≡◌, ℕ, zero, suc, ◌+◌, ◌-◌, ◌*◌, ◌%◌, ◌^◌, ◌<◌, ◌≤◌, Bool, true, false, cond, ltb, List, [], ◌∷◌, length, get_or, drop, Ok, Err, Result, sym, refl, ap, ◌∙◌, mul_assoc, mul_comm, mul-add, mul_left_comm, arith, drop_of_length-le}
+use Rattle.std.proofs.Common.{◌≡◌, ℕ, suc, ◌+◌, ◌-◌, ◌*◌, ◌%◌, ◌^◌, ◌<◌, ◌≤◌, true, false, cond, ltb, List, [], length, get_or, drop, Ok, Err, refl, ap, ◌∙◌, mul_assoc, mul_comm, mul-add, mul_left_comm, arith, drop_of_length-le}
 use lib.Bits.{bit_and}
 use lib.Arith.{digits_lt}
 use Rattle.std.proofs.lemmas.Nat.{pow-add, and_mask, shl_whole, mod_below}
 use Rattle.std.proofs.lemmas.List.{drop_more}
 use Rattle.std.proofs.lemmas.Bool.Decides.{nat_tests}
 use Rattle.hybrid_rle.specs.Header.{Read, above, number}
-use Rattle.hybrid_rle.specs.declared.header.Broken.TheVariants.{Ended, Long, Large}
+use Rattle.hybrid_rle.specs.declared.header.Broken.TheVariants.{Ended}
 
 -- what is read when `low` was read before, in n bytes
 abbrev pub after : ℕ → ℕ → Read → Read

@@ -1,16 +1,16 @@
 -- Laws of rows and their pieces.
-use Rattle.std.proofs.Common.{◌≡◌, ℕ, zero, suc, ◌+◌, ◌-◌, ◌*◌, ◌/◌, ◌%◌, ◌^◌, ◌<◌, ◌≤◌, min, Bool, true, false, cond, eqb, ltb, leb, List, [], ◌∷◌, ◌++◌, map, length, get_or, take, drop, replicate, is_ok, Some, None, Ok, Err, Option, Result, sym, refl, ap, ◌∙◌, ⊎_elim, add-zero, arith, length-append, length-drop, length-take, leb-true}
+use Rattle.std.proofs.Common.{◌≡◌, ℕ, zero, suc, ◌+◌, ◌-◌, ◌*◌, ◌/◌, ◌%◌, ◌<◌, ◌≤◌, min, Bool, true, false, cond, eqb, ltb, leb, List, [], ◌∷◌, ◌++◌, map, length, take, drop, replicate, is_ok, Some, None, Ok, Err, Option, Result, sym, refl, ap, ◌∙◌, ⊎_elim, add-zero, arith, length-append, length-drop, length-take, leb-true}
 use Rattle.std.specs.List.{flat_map}
-use native.Mathlib.Nat.{sub-zero, zero-min, min-zero, suc-min-suc, suc-sub-suc}
+use native.Mathlib.Nat.{sub-zero, zero-min, min-zero, suc-min-suc}
 use lib.ListN.{length-map}
 use Rattle.std.proofs.lemmas.Bool.Decides.{nat_tests, leb_tells}
 use Rattle.std.proofs.lemmas.List.{drop-drop, drop_all, drop_at, append_assoc, take-append-drop, take_all, length-replicate, take-replicate, drop-replicate}
 use Rattle.hybrid_rle.specs.Header.{Read, header}
-use Rattle.hybrid_rle.specs.Runs.{One, Stretch, packed, repeated, bit, fields, cut, run_of, run, onto, ahead, allowed, numbers, count, runs_by, runs, sound}
+use Rattle.hybrid_rle.specs.Runs.{One, Stretch, packed, repeated, bit, fields, cut, run_of, run, ahead, allowed, numbers, count, runs, sound}
 use Rattle.values.specs.Little.{little}
-use Rattle.hybrid_rle.specs.Rows.{present, bits, rows_of, later, gives_rows, piece, beyond, taken, flat, in_place}
+use Rattle.hybrid_rle.specs.Rows.{present, bits, rows_of, later, gives_rows, piece, beyond, taken, flat}
 use Rattle.hybrid_rle.specs.declared.header.Broken.{Broken}
-use Rattle.hybrid_rle.specs.declared.header.Broken.TheVariants.{Short, Above, Ended, Large}
+use Rattle.hybrid_rle.specs.declared.header.Broken.TheVariants.{Short, Above}
 use Rattle.hybrid_rle.proofs.Streams.{runs_more, Counts, counts_by}
 
 -- bits

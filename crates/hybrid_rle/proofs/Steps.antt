@@ -1,7 +1,7 @@
 -- The run that is read, in the terms that the code has.
-use Rattle.std.proofs.Common.{◌≡◌, ℕ, zero, suc, ◌+◌, ◌-◌, ◌*◌, ◌/◌, ◌%◌, ◌^◌, ◌<◌, ◌≤◌, Bool, true, false, cond, eqb, ltb, leb, List, [], ◌∷◌, length, get_or, take, drop, replicate, Ok, Err, sym, refl, ap, ◌∙◌, arith}
+use Rattle.std.proofs.Common.{◌≡◌, ℕ, ◌/◌, ◌%◌, true, false, cond, eqb, List, drop, Ok, sym, refl, ap, ◌∙◌, arith}
 use Rattle.std.proofs.lemmas.Bool.Decides.{nat_tests}
-use Rattle.hybrid_rle.specs.Header.{Read, header}
+use Rattle.hybrid_rle.specs.Header.{header}
 use Rattle.hybrid_rle.specs.Runs.{packed_in, repeated_in, run_of, run}
 
 module _ (w h k : ℕ) (bs body : List ℕ) (is : Ok (h, k) ≡ header bs) (rest : body ≡ drop k bs) where

@@ -1,14 +1,13 @@
 -- Laws of streams of runs.
-use Rattle.std.proofs.Common.{◌≡◌, ℕ, zero, suc, ◌+◌, ◌-◌, ◌*◌, ◌/◌, ◌%◌, ◌^◌, ◌<◌, ◌≤◌, Bool, true, false, cond, eqb, ltb, leb, List, [], ◌∷◌, length, get_or, take, drop, replicate, Ok, Err, Result, sym, refl, ap, ◌∙◌, arith, length-append, length-drop, length-take}
+use Rattle.std.proofs.Common.{◌≡◌, ℕ, zero, suc, ◌+◌, ◌-◌, ◌*◌, ◌/◌, ◌%◌, ◌^◌, ◌<◌, ◌≤◌, Bool, true, false, cond, eqb, ltb, leb, List, [], ◌∷◌, length, take, drop, Ok, Err, Result, sym, refl, ap, ◌∙◌, arith, length-append, length-drop, length-take}
 use lib.ListN.{length-replicate}
 use Rattle.std.specs.List.{flat_map}
-use Rattle.std.proofs.lemmas.Bool.Decides.{nat_tests}
 use Rattle.std.proofs.lemmas.Bool.{le-leb}
 use Rattle.hybrid_rle.specs.Header.{Read, above, number, fitting, header}
 use Rattle.hybrid_rle.specs.Runs.{One, Stretch, packed, repeated, fields, cut, run_of, run, onto, ahead, allowed, numbers, count, runs_by, runs, sound, run_at, sound_at}
 use Rattle.values.specs.Little.{little}
 use Rattle.hybrid_rle.specs.declared.header.Broken.{Broken}
-use Rattle.hybrid_rle.specs.declared.header.Broken.TheVariants.{Short, Above, Ended, Large}
+use Rattle.hybrid_rle.specs.declared.header.Broken.TheVariants.{Short, Above, Large}
 
 -- a number takes a byte or more, and none past the end
 abbrev Within : ℕ → Read → Type 0

@@ -1,6 +1,6 @@
 -- Worked examples.
-use Rattle.std.specs.Prelude.{◌≡◌, ℕ, ◌-◌, ◌^◌, Bool, true, false, List, [], ◌∷◌, Ok, Err, refl}
-use Rattle.hybrid_rle.specs.Header.{Read, within_limit, header, number}
+use Rattle.std.specs.Prelude.{◌≡◌, ◌-◌, ◌^◌, true, false, [], ◌∷◌, Ok, Err}
+use Rattle.hybrid_rle.specs.Header.{within_limit, header, number}
 use Rattle.hybrid_rle.specs.Runs.{runs}
 use Rattle.hybrid_rle.specs.Rows.{later}
 use Rattle.hybrid_rle.specs.declared.header.Broken.TheVariants.{Ended, Long, Large, Short, Above}

@@ -1,9 +1,8 @@
 -- Every chunk taken but the last is full.
-use Rattle.std.proofs.Common.{◌≡◌, ℕ, ◌+◌, ◌-◌, ◌*◌, ◌^◌, ◌<◌, ◌≤◌, min, ◌⊎◌, List, [], ◌∷◌, ◌++◌, length, sym, refl, ap, ◌∙◌, subst, inl, inr, ⊎_elim, arith}
-use Rattle.model.specs.Model.{Column, Setup, Phase, Filling, Ready, Ended, Closed, Read, chunk, verdict, Answer, Event, Next, Take, RowAt, Close, Steps, wrong_rows, small_room, small_space, at_limit, fills, uses_up, gives, last_chunk, no_more, Step, Run, PageLeft, taken}
+use Rattle.std.proofs.Common.{◌≡◌, ℕ, List, [], ◌∷◌, length, sym, refl, ap, ◌∙◌, subst, ⊎_elim, arith}
+use Rattle.model.specs.Model.{Column, Setup, Phase, Filling, Ready, Ended, Closed, Read, Answer, Event, Next, Take, RowAt, Close, Steps, wrong_rows, small_room, small_space, at_limit, fills, uses_up, gives, last_chunk, no_more, Run, PageLeft}
 use Rattle.model.specs.Laws.{chunks, FullButLast}
 use Rattle.values.specs.Values.{Row}
-use Rattle.pages.specs.Delivered.{Delivered}
 use Rattle.model.proofs.Keeps.{Kept, Done, placed, kept_step, counts}
 
 apart : {p : Phase} → p ≡ Filling → p ≡ Ready → ⊥

@@ -1,9 +1,9 @@
 -- What each call keeps of a read reached from a fresh one.
-use Rattle.std.proofs.Common.{◌≡◌, ℕ, ◌+◌, ◌-◌, ◌*◌, ◌^◌, ◌<◌, ◌≤◌, min, Bool, true, false, cond, ◌⊎◌, List, [], ◌∷◌, ◌++◌, length, take, drop, Some, None, Option, sym, refl, ap, ◌∙◌, subst, inl, inr, ⊎_elim, arith, length-append, length-take}
+use Rattle.std.proofs.Common.{◌≡◌, ℕ, ◌+◌, ◌-◌, ◌^◌, ◌≤◌, Bool, true, false, ◌⊎◌, List, [], ◌∷◌, ◌++◌, length, take, None, sym, refl, ap, ◌∙◌, subst, inl, inr, ⊎_elim, arith, length-append, length-take}
 use Rattle.std.proofs.lemmas.List.{nil_from_length}
-use Rattle.values.specs.Values.{Row, stands}
+use Rattle.values.specs.Values.{stands}
 use Rattle.pages.specs.Delivered.{Delivered}
-use Rattle.model.specs.Model.{Column, Setup, Phase, Filling, Ready, Ended, Closed, Read, chunk, Answer, Event, Next, Take, RowAt, Close, Steps, wrong_rows, small_room, small_space, at_limit, fills, uses_up, gives, last_chunk, no_more, Step, Run, Matches, taken, in_phase, fitting, fresh, AllPresent, bits_for, bits_due}
+use Rattle.model.specs.Model.{Column, Setup, Phase, Filling, Ready, Ended, Closed, Read, chunk, Answer, Event, Next, Take, RowAt, Close, Steps, wrong_rows, small_room, small_space, at_limit, fills, uses_up, gives, last_chunk, no_more, Step, Run, Matches, fitting, fresh, AllPresent, bits_for, bits_due}
 use Rattle.model.proofs.Rows.{length_rows, length_stands, length_bits, rows_appended, present_take, present_drop, verdict_full}
 
 -- no row will come any more

@@ -1,8 +1,8 @@
 -- The calls as their contracts say them are runs, and every run is one.
-use Rattle.std.proofs.Common.{◌≡◌, ℕ, ◌+◌, ◌-◌, ◌<◌, ◌≤◌, Bool, true, false, cond, ◌&&◌, ◌||◌, eqb, ltb, ◌⊎◌, List, [], ◌∷◌, ◌++◌, map, length, Some, None, Option, sym, refl, ap, ◌∙◌, subst, inl, inr, ⊎_elim, arith}
+use Rattle.std.proofs.Common.{◌≡◌, ℕ, ◌<◌, Bool, true, false, cond, ◌&&◌, eqb, ltb, List, [], ◌∷◌, map, length, Some, Option, sym, refl, ap, ◌∙◌, inl, inr, ⊎_elim, arith}
 use Rattle.std.proofs.lemmas.Bool.{cond_both, eqb-true, eqb-false, ltb-true, ltb-false, or_cases, or_parts, or_from, or_left, or_right, cond-true, cond-false, eq-eqb, ne_eqb, lt-ltb, le-ltb, cases_Bool}
-use Rattle.model.specs.Model.{Column, Setup, Phase, Filling, Ready, Ended, Closed, Read, chunk, verdict, Answer, Event, Next, Take, RowAt, Close, Steps, wrong_rows, small_room, small_space, at_limit, fills, uses_up, gives, last_chunk, no_more, Right, PageLeft, PageUsed, Step, Run, fitting, Fills, More, Chunk, End, Refused, in_phase, appended, delivered, taken, bytes_then, Matches, capacity, bits_due, fresh}
-use Rattle.values.specs.Values.{Row, asked_at}
+use Rattle.model.specs.Model.{Column, Setup, Phase, Filling, Ready, Ended, Closed, Read, Answer, Event, Next, Take, RowAt, Close, Steps, wrong_rows, small_room, small_space, at_limit, fills, uses_up, gives, last_chunk, no_more, Right, PageLeft, PageUsed, Step, Run, fitting, Fills, More, Chunk, End, in_phase, appended, taken, bytes_then, Matches, capacity, fresh}
+use Rattle.values.specs.Values.{Row}
 use Rattle.pages.specs.Delivered.{Delivered}
 use Rattle.faults.specs.declared.types.Cause.TheVariants as cause
 use Rattle.model.specs.Calls.{Call, refused, matching, ListsReach, ToNext, ToTake, ToRow, ToClose, next_of, from_page, from_source, filled, perform, noted, made}

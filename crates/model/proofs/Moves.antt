@@ -1,8 +1,8 @@
 -- How a list of calls moves rows from the source through the chunk to the caller.
-use Rattle.std.proofs.Common.{◌≡◌, ℕ, ◌+◌, ◌-◌, ◌*◌, ◌^◌, ◌<◌, ◌≤◌, min, ◌⊎◌, List, [], ◌∷◌, ◌++◌, length, take, drop, Some, None, Option, sym, refl, ap, ◌∙◌, subst, inl, inr, ⊎_elim, append_assoc, append-nil, arith, length-append, take-append-drop, length-take}
+use Rattle.std.proofs.Common.{◌≡◌, ℕ, ◌+◌, ◌-◌, ◌*◌, ◌^◌, ◌<◌, ◌≤◌, min, List, [], ◌∷◌, ◌++◌, length, take, drop, sym, refl, ap, ◌∙◌, subst, inl, inr, append_assoc, append-nil, arith, length-append, take-append-drop, length-take}
 use Rattle.std.proofs.lemmas.List.{drop_all}
-use Rattle.model.specs.Model.{Verdict, Page, Holds, Broken, Column, Setup, Phase, Filling, Ready, Ended, Closed, Read, chunk, verdict, Answer, More, Chunk, End, Refused, Event, Next, Take, RowAt, Close, Steps, wrong_rows, small_room, small_space, at_limit, fills, uses_up, gives, last_chunk, no_more, Step, Run, PageLeft, Fills, fitting, fresh, sound_rows, taken, in_phase, appended, delivered, rows_of, held_after, told, one_more}
-use Rattle.model.specs.Laws.{chunks, all_rows, handed_out, unrefused, is_chunk, tally, by_layer}
+use Rattle.model.specs.Model.{Verdict, Page, Holds, Broken, Column, Setup, Phase, Filling, Ready, Ended, Closed, Read, chunk, verdict, Answer, More, Chunk, End, Event, Next, Take, RowAt, Close, Steps, wrong_rows, small_room, small_space, at_limit, fills, uses_up, gives, last_chunk, no_more, Step, Run, Fills, fitting, sound_rows, in_phase, appended, delivered, rows_of, told, one_more}
+use Rattle.model.specs.Laws.{handed_out, unrefused, is_chunk, tally, by_layer}
 use Rattle.values.specs.Values.{Row}
 use Rattle.pages.specs.Delivered.{Delivered}
 use Rattle.faults.specs.Faults.{layer_of}

@@ -1,8 +1,8 @@
 -- The rows of a chunk that rows are appended to.
-use Rattle.std.proofs.Common.{◌≡◌, ℕ, zero, suc, ◌+◌, ◌-◌, ◌<◌, ◌≤◌, Bool, true, false, cond, List, [], ◌∷◌, ◌++◌, length, take, drop, Some, None, Option, sym, refl, ap, ◌∙◌, subst, append_assoc, append-nil, arith, length-append}
-use Rattle.values.specs.Values.{Value, Row, null, value, number, flag, bytes, weight, stand, stands, validity, present, under, rows_in, Seen, a_number, a_flag, a_place, Asked, seen_as, seen_at, bit_at, asked, asked_at, all_bytes, value_seen, row_asked, row_at}
+use Rattle.std.proofs.Common.{◌≡◌, ℕ, zero, suc, ◌+◌, Bool, true, false, List, [], ◌∷◌, ◌++◌, length, take, drop, Option, sym, refl, ap, ◌∙◌, arith}
+use Rattle.values.specs.Values.{Value, Row, null, value, stand, stands, validity, present, under, rows_in}
 use Rattle.pages.specs.Delivered.{Delivered, page, dict, fault}
-use Rattle.model.specs.Model.{Column, Dict, AllPresent, bits_for, bits_due, verdict, rows_of, held_after}
+use Rattle.model.specs.Model.{Column, Dict, AllPresent, bits_for, bits_due, verdict, rows_of}
 
 pub length_rows : (vs : List Value) (bs : List Bool) → length (rows_in vs bs) ≡ length vs
 length_rows [] bs = refl

@@ -1,5 +1,5 @@
 -- A list of calls, one more at a time.
-use Rattle.std.proofs.Common.{◌≡◌, ℕ, ◌+◌, ◌*◌, ◌<◌, ◌≤◌, List, [], ◌∷◌, ◌++◌, map, Some, None, Option, sym, refl, ap, ◌∙◌, subst, append_assoc, append-nil}
+use Rattle.std.proofs.Common.{◌≡◌, ℕ, ◌+◌, ◌*◌, ◌≤◌, List, [], ◌∷◌, map, Some, None, Option, sym, refl, ap, ◌∙◌, subst}
 use Rattle.pages.specs.Delivered.{Delivered}
 use Rattle.model.specs.Model.{Column, Setup, Read, Event, Next, Take, RowAt, Close, fresh, Run}
 use Rattle.model.specs.Calls.{Call, perform, noted, made}

@@ -1,6 +1,6 @@
 -- What row answers of a chunk's row.
-use Rattle.std.proofs.Common.{◌≡◌, ℕ, zero, suc, ◌+◌, Bool, true, false, List, [], ◌∷◌, ◌++◌, length, take, drop, Some, None, Option, sym, refl, ap, ◌∙◌, subst, append_assoc, append-nil, arith, length-append}
-use Rattle.values.specs.Values.{Value, Row, null, value, number, flag, bytes, weight, under, rows_in, Seen, seen_as, seen_at, bit_at, asked, asked_at, all_bytes, value_seen, row_asked, row_at}
+use Rattle.std.proofs.Common.{◌≡◌, ℕ, zero, suc, ◌+◌, Bool, true, false, List, [], ◌∷◌, ◌++◌, length, take, drop, Some, sym, refl, ap, ◌∙◌, append_assoc, arith, length-append}
+use Rattle.values.specs.Values.{Value, value, number, flag, bytes, weight, under, rows_in, Seen, seen_as, seen_at, bit_at, asked, all_bytes, value_seen, row_asked, row_at}
 use Rattle.model.specs.Laws.{RowsSeen}
 use Rattle.model.proofs.Rows.{take_over, drop_over}
 

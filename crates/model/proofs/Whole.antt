@@ -1,8 +1,8 @@
 -- The laws of whole runs.
-use Rattle.std.proofs.Common.{◌≡◌, ℕ, zero, suc, ◌+◌, ◌-◌, ◌*◌, ◌^◌, ◌<◌, ◌≤◌, min, ◌⊎◌, List, [], ◌∷◌, ◌++◌, length, take, Some, None, Option, sym, refl, ap, ◌∙◌, subst, inl, inr, ⊎_elim, append_assoc, append-nil, arith, length-append, length-take}
+use Rattle.std.proofs.Common.{◌≡◌, ℕ, zero, suc, ◌+◌, ◌-◌, ◌*◌, ◌≤◌, List, [], ◌∷◌, ◌++◌, length, take, None, Option, sym, refl, ap, ◌∙◌, ⊎_elim, append_assoc, append-nil, arith, length-append, length-take}
 use Rattle.std.proofs.lemmas.List.{take_at, take_all}
-use Rattle.model.specs.Model.{Column, Setup, Phase, Filling, Ready, Ended, Closed, Read, chunk, verdict, Answer, Event, Next, Take, RowAt, Close, Step, Run, fresh, sound_rows, held_after, rows_of, Dict}
-use Rattle.model.specs.Laws.{chunks, handed_out, unrefused, is_chunk, tally, EachClose, Over, given, Accounts, RowsAccounted, RowsExtend, NextsBounded, WholeRead}
+use Rattle.model.specs.Model.{Column, Setup, Phase, Filling, Ready, Ended, Closed, Read, chunk, verdict, Event, Next, Take, RowAt, Close, Step, Run, fresh, sound_rows, held_after, rows_of, Dict}
+use Rattle.model.specs.Laws.{handed_out, unrefused, is_chunk, tally, EachClose, Over, given, Accounts, RowsAccounted, RowsExtend, NextsBounded, WholeRead}
 use Rattle.values.specs.Values.{Row}
 use Rattle.pages.specs.Delivered.{Delivered}
 use Rattle.model.proofs.Keeps.{Kept, Placed, Done, kept_fresh, kept_run, empties}

@@ -1,5 +1,5 @@
 -- What each call answers and leaves, as the contracts of the calls say it.
-use Rattle.std.specs.Prelude.{◌≡◌, ℕ, ◌+◌, ◌-◌, ◌<◌, ◌≤◌, Bool, true, false, cond, ◌&&◌, ◌||◌, List, [], ◌∷◌, ◌++◌, length, Some, None, Option, ◌==◌, nat_lt}
+use Rattle.std.specs.Prelude.{◌≡◌, ℕ, ◌+◌, ◌-◌, Bool, cond, ◌&&◌, ◌||◌, List, [], ◌∷◌, length, Some, None, Option, ◌==◌, nat_lt}
 use Rattle.values.specs.Values.{Row, asked_at}
 use Rattle.pages.specs.Delivered.{Delivered}
 use Rattle.faults.specs.declared.types.Cause.{Cause}

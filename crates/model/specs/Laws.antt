@@ -1,5 +1,5 @@
 -- What holds after every list of calls.
-use Rattle.std.specs.Prelude.{◌≡◌, ℕ, ◌+◌, ◌-◌, ◌*◌, ◌^◌, ◌<◌, ◌≤◌, min, Bool, ◌⊎◌, List, [], ◌∷◌, ◌++◌, length, take, Some, None, Option}
+use Rattle.std.specs.Prelude.{◌≡◌, ℕ, ◌+◌, ◌-◌, ◌*◌, ◌^◌, ◌≤◌, min, Bool, List, [], ◌∷◌, ◌++◌, length, take, None}
 use Rattle.values.specs.Values.{Row, Value, all_bytes, row_asked, asked_at, row_at, rows_in}
 use Rattle.pages.specs.Delivered.{Delivered}
 use Rattle.faults.specs.Faults.{layer_of}

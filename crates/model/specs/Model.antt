@@ -1,5 +1,5 @@
 -- A read of one column, by what its calls do: rows, deliveries and counts.
-use Rattle.std.specs.Prelude.{◌≡◌, ℕ, ◌+◌, ◌-◌, ◌^◌, ◌<◌, ◌≤◌, min, Bool, true, false, cond, ◌⊎◌, List, [], ◌∷◌, ◌++◌, length, take, drop, Some, None, Option}
+use Rattle.std.specs.Prelude.{◌≡◌, ℕ, ◌+◌, ◌-◌, ◌^◌, ◌<◌, ◌≤◌, min, Bool, true, false, cond, ◌⊎◌, List, [], ◌∷◌, ◌++◌, length, take, drop, None, Option}
 use Rattle.values.specs.Values.{Value, Row, weights, stands, validity, rows_in, present, Asked, asked_at}
 use Rattle.pages.specs.Delivered.{Delivered, page, dict, fault}
 use Rattle.faults.specs.declared.types.Cause.{Cause}

@@ -1,8 +1,8 @@
 -- Rows that go from a held page into a chunk.
-use Rattle.std.specs.Prelude.{ℕ, ◌+◌, Bool, cond, ◌&&◌, List, [], ◌∷◌, ◌++◌, length, take, Ok, Err, Result, nat_le}
+use Rattle.std.specs.Prelude.{ℕ, ◌+◌, Bool, ◌&&◌, List, length, take, Ok, Err, Result, nat_le}
 use Rattle.faults.specs.declared.types.Cause.{Cause}
 use Rattle.values.specs.Values.{Value, Row, Room, weights, stands}
-use Rattle.model.specs.Model.{bits_due, bits_for, Setup, Verdict, Page, Holds, Broken}
+use Rattle.model.specs.Model.{bits_due, Setup, Verdict, Page, Holds, Broken}
 
 -- a chunk size, the sink's room and the validity's
 abbrev pub setup : ℕ → Room → ℕ → Setup

@@ -1,8 +1,8 @@
-use Rattle.std.proofs.Common.{◌≡◌, ℕ, zero, suc, ◌+◌, ◌-◌, ◌<◌, ◌≤◌, Bool, true, false, ltb, List, [], ◌∷◌, length, take, drop, sym, refl, ap, ◌∙◌, ⊎_elim, arith, length-take}
+use Rattle.std.proofs.Common.{◌≡◌, ℕ, zero, suc, ◌-◌, ◌<◌, Bool, true, false, ltb, List, [], ◌∷◌, length, take, ⊎_elim, arith, length-take}
 use Rattle.std.proofs.lemmas.Bool.{le-ltb, lt-ltb, cases_lt}
-use Rattle.pages.specs.Delivered.{Delivered, page, dict, fault}
-use Rattle.pages.specs.Commands.{Taken, broken, command, streamed}
-use Rattle.pages.specs.Written.{written, Writable, CutShortIs2}
+use Rattle.pages.specs.Delivered.{page, dict, fault}
+use Rattle.pages.specs.Commands.{broken, command, streamed}
+use Rattle.pages.specs.Written.{written, CutShortIs2}
 use Rattle.pages.proofs.Streams.{streamed_step}
 use Rattle.pages.proofs.Writes.{from_bytes}
 

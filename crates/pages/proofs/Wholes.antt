@@ -1,10 +1,10 @@
 -- A stream taken apart into whole commands and what stands behind them.
-use Rattle.std.proofs.Common.{◌≡◌, ℕ, zero, suc, ◌+◌, ◌*◌, ◌/◌, ◌%◌, ◌<◌, ◌≤◌, Bool, true, false, cond, eqb, ltb, ◌⊎◌, List, [], ◌∷◌, ◌++◌, length, get_or, take, drop, Some, None, Option, sym, refl, ap, ◌∙◌, inl, inr, ⊎_elim, append_assoc, arith, length-append, length-drop, take-append-drop, length-take, drop-cons, ltb-false, eqb-true}
+use Rattle.std.proofs.Common.{◌≡◌, ℕ, zero, suc, ◌+◌, ◌/◌, ◌%◌, ◌<◌, ◌≤◌, Bool, true, false, eqb, ltb, ◌⊎◌, List, [], ◌∷◌, ◌++◌, length, get_or, take, drop, Option, sym, refl, ap, ◌∙◌, inl, inr, ⊎_elim, append_assoc, arith, length-append, take-append-drop, length-take, drop-cons, ltb-false, eqb-true}
 use Rattle.std.proofs.lemmas.Bool.{cond_both}
 use Rattle.pages.specs.Delivered.{Delivered, page, dict, fault}
 use Rattle.pages.specs.Commands.{Taken, broken, le32, flagged, by_flag, command, streamed, dictionary_page_of, data_page_of}
-use Rattle.pages.specs.Written.{written, Writable, all_written, AllWritable, flag_byte}
-use Rattle.pages.specs.Whole.{Bytes, GivesOneFault, TakenApart, WholeThenOneFault}
+use Rattle.pages.specs.Written.{written, Writable, all_written, flag_byte}
+use Rattle.pages.specs.Whole.{Bytes, TakenApart, WholeThenOneFault}
 use Rattle.pages.proofs.Streams.{streamed_step}
 
 byte_at : (bs : List ℕ) → Bytes bs → (i : ℕ) → get_or bs i 0 < 256

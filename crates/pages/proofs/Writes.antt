@@ -1,9 +1,9 @@
-use Rattle.std.proofs.Common.{◌≡◌, ℕ, suc, ◌+◌, ◌*◌, ◌/◌, ◌%◌, ◌^◌, ◌<◌, ◌≤◌, Bool, true, false, cond, ltb, List, [], ◌∷◌, ◌++◌, length, take, drop, Some, None, sym, refl, ap, ◌∙◌, append_assoc, arith, length-append}
+use Rattle.std.proofs.Common.{◌≡◌, ℕ, ◌+◌, ◌*◌, ◌/◌, ◌%◌, ◌<◌, Bool, true, false, ltb, List, [], ◌∷◌, ◌++◌, length, Some, refl, ap, append_assoc, arith, length-append}
 use Rattle.std.proofs.lemmas.Bool.{le-ltb}
 use Rattle.std.proofs.lemmas.List.{take_at, drop_at}
 use Rattle.pages.specs.Delivered.{Delivered, page, dict, fault}
-use Rattle.pages.specs.Commands.{Taken, command, streamed, dictionary_page_of, data_page_of, flagged, by_flag}
-use Rattle.pages.specs.Written.{written, Writable, all_written, AllWritable, flag_byte, le_bytes, DeliversWhatWasWritten}
+use Rattle.pages.specs.Commands.{command, dictionary_page_of, data_page_of, flagged}
+use Rattle.pages.specs.Written.{written, Writable, all_written, flag_byte, DeliversWhatWasWritten}
 use Rattle.pages.proofs.Streams.{streamed_step}
 
 -- four bytes back into their number

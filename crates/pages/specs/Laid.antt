@@ -1,5 +1,5 @@
 -- Pages laid one after the other into a buffer, and the heads that say where each lies.
-use Rattle.std.specs.Prelude.{◌≡◌, ℕ, ◌+◌, Bool, true, false, List, [], ◌∷◌, ◌++◌, length}
+use Rattle.std.specs.Prelude.{◌≡◌, ℕ, ◌+◌, true, false, List, [], ◌∷◌, ◌++◌, length}
 use Rattle.pages.specs.Delivered.{Delivered, page, dict, fault}
 use Rattle.pages.specs.Written.{flag_byte}
 use Rattle.pages.specs.Heads.{listed}

@@ -1,6 +1,6 @@
 -- Every stream is whole commands and then nothing or one fault.
 use Rattle.std.specs.Prelude.{◌≡◌, ℕ, ◌<◌, ◌≤◌, ◌⊎◌, List, [], ◌∷◌, ◌++◌}
-use Rattle.pages.specs.Delivered.{Delivered, page, dict, fault}
+use Rattle.pages.specs.Delivered.{Delivered, fault}
 use Rattle.pages.specs.Commands.{streamed}
 use Rattle.pages.specs.Written.{AllWritable, all_written}
 

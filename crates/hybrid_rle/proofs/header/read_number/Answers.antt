@@ -1,4 +1,4 @@
-use Rattle.std.proofs.Common.{◌≡◌, ◌≤◌, min, sym, ap, ◌∙◌, arith}
+use Rattle.std.proofs.Common.{◌≤◌, sym, ap, ◌∙◌, arith}
 use Rattle.hybrid_rle.specs.Header.{within_limit, number}
 use Rattle.hybrid_rle.proofs.Headers.{last_digit, more_digits, digits_below, cut_off}
 use Rattle.hybrid_rle.proofs.header.read_number.Goals as goal

@@ -1,4 +1,4 @@
-use Rattle.std.proofs.Common.{◌≡◌, length, sym, ap, ◌∙◌}
+use Rattle.std.proofs.Common.{length, sym, ap, ◌∙◌}
 use lib.ListN.{length-replicate}
 use Rattle.hybrid_rle.specs.Held.{rows}
 use Rattle.hybrid_rle.proofs.Pieces.{length_bits}

@@ -1,4 +1,4 @@
-use Rattle.std.proofs.Common.{◌≡◌, true, sym, refl, ap, ◌∙◌, le-leb}
+use Rattle.std.proofs.Common.{sym, ap, ◌∙◌, le-leb}
 use Rattle.hybrid_rle.specs.Runs.{allowed, count}
 use Rattle.hybrid_rle.specs.Borrowed.{stretch}
 use Rattle.hybrid_rle.proofs.Streams.{run_shorter, sound_more}

@@ -1,4 +1,4 @@
-use Rattle.std.proofs.Common.{arith, ltb-false, ltb-true}
+use Rattle.std.proofs.Common.{arith, ltb-true}
 use Rattle.std.proofs.lemmas.List.{get_or_past}
 use Rattle.hybrid_rle.proofs.Littles.{little_four}
 use Rattle.hybrid_rle.proofs.runs.little_end.Goals as goal

@@ -1,4 +1,4 @@
-use Rattle.std.proofs.Common.{◌≡◌, ◌/◌, ◌%◌, ◌^◌, ◌≤◌, sym, ap, ◌∙◌, arith}
+use Rattle.std.proofs.Common.{◌/◌, ◌%◌, ◌^◌, ◌≤◌, ap, ◌∙◌, arith}
 use Rattle.hybrid_rle.specs.Runs.{field}
 use Rattle.values.specs.Little.{little}
 use Rattle.hybrid_rle.proofs.Places.{masked, masked_fits, five_bytes}

@@ -1,8 +1,8 @@
-use Rattle.std.proofs.Common.{◌≡◌, ℕ, ◌-◌, ◌≤◌, true, false, eqb, ltb, List, length, get_or, take, drop, sym, refl, ap, ◌∙◌, arith, rules, ltb-false}
+use Rattle.std.proofs.Common.{◌≡◌, ℕ, ◌-◌, ◌≤◌, false, ltb, List, length, get_or, take, drop, ◌∙◌, arith, rules, ltb-false}
 use Rattle.pages.proofs.stream.first_command.Goals.{then-bytes-lt11+in-68-1, else-bytes-lt11+in-68-1}
 use Rattle.std.proofs.lemmas.Bool.{le-ltb}
 use Rattle.std.proofs.lemmas.Slice.{between_to_end}
-use Rattle.pages.specs.Commands.{Taken, le32, command, dictionary_page_of, data_page_of}
+use Rattle.pages.specs.Commands.{le32, command, dictionary_page_of, data_page_of}
 use Rattle.pages.proofs.stream.first_command.Goals as goal
 
 module _ (bs : List ℕ) (e n : ℕ) where

@@ -1,4 +1,4 @@
-use Rattle.std.proofs.Common.{◌≡◌, ℕ, ◌*◌, ◌≤◌, List, ◌++◌, length, Ok, sym, ap, ◌∙◌, arith, rules}
+use Rattle.std.proofs.Common.{◌≡◌, ◌++◌, Ok, sym, ap, ◌∙◌, arith, rules}
 use Rattle.hybrid_rle.specs.Runs.{One, run, packed, repeated}
 use Rattle.hybrid_rle.specs.Rows.{later}
 use Rattle.hybrid_rle.specs.Held.{held}

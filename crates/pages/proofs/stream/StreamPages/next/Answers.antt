@@ -1,5 +1,4 @@
-use Rattle.std.proofs.Common.{◌<◌, length, Some, ap, arith, rules}
-use borrow.Author.Tests.{eqb-false}
+use Rattle.std.proofs.Common.{◌<◌, length, Some, ap, rules}
 use Rattle.pages.specs.Commands.{Taken, streamed}
 use Rattle.pages.proofs.Streams.{streamed_step}
 use Rattle.pages.proofs.stream.StreamPages.next.Goals as goal

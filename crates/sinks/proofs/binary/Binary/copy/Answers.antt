@@ -1,4 +1,4 @@
-use Rattle.std.proofs.Common.{◌≡◌, ◌+◌, ◌++◌, length, get_or, take, sym, ap, ◌∙◌, arith, length-set, rules}
+use Rattle.std.proofs.Common.{◌≡◌, ◌++◌, length, get_or, take, sym, ap, ◌∙◌, arith, length-set, rules}
 use Rattle.std.proofs.lemmas.List.{take_all, take_more}
 use Rattle.sinks.proofs.Rows.{store_more}
 use Rattle.sinks.proofs.binary.Binary.copy.Goals as goal

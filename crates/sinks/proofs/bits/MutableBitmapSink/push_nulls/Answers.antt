@@ -1,4 +1,4 @@
-use Rattle.std.proofs.Common.{◌≡◌, false, [], ◌∷◌, length, replicate, sym, refl, ap, ◌∙◌}
+use Rattle.std.proofs.Common.{false, [], ◌∷◌, length, replicate, sym, refl, ap, ◌∙◌}
 use lib.ListN.{length-replicate}
 use Rattle.bitmap.specs.Bitmaps.{bits, capacity}
 use Rattle.bitmap.proofs.Laws.{length_bits}

@@ -1,4 +1,4 @@
-use Rattle.std.proofs.Common.{◌≡◌, ◌+◌, cond, leb, [], ◌∷◌, ◌++◌, length, replicate, sym, ap, ◌∙◌}
+use Rattle.std.proofs.Common.{◌+◌, cond, leb, [], ◌∷◌, ◌++◌, length, replicate, sym, ap, ◌∙◌}
 use Rattle.bitmap.specs.Bitmaps.{bits, capacity}
 use Rattle.bitmap.proofs.Laws.{length_bits}
 use Rattle.sinks.proofs.bits.MutableBitmapValidity.extend_constant.Goals as goal

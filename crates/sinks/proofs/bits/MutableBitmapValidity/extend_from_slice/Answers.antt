@@ -1,5 +1,5 @@
-use Rattle.std.proofs.Common.{◌≡◌, [], ◌∷◌, length, sym, ap, ◌∙◌}
-use Rattle.bitmap.specs.Bitmaps.{bits, capacity}
+use Rattle.std.proofs.Common.{[], ◌∷◌, length, sym, ap, ◌∙◌}
+use Rattle.bitmap.specs.Bitmaps.{capacity}
 use Rattle.bitmap.specs.Refusals.{sliced}
 use Rattle.bitmap.proofs.Laws.{length_bits}
 use Rattle.sinks.proofs.bits.MutableBitmapValidity.extend_from_slice.Goals as goal

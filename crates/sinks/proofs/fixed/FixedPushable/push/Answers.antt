@@ -1,4 +1,4 @@
-use Rattle.std.proofs.Common.{◌≡◌, ◌+◌, true, false, [], ◌∷◌, length, take, set, pos, sym, refl, ap, arith, length-set, rules}
+use Rattle.std.proofs.Common.{◌+◌, true, false, [], ◌∷◌, length, take, set, pos, sym, refl, ap, arith, length-set, rules}
 use Rattle.std.proofs.lemmas.List.{take_more_set}
 use Rattle.std.proofs.lemmas.Bool.{leb-true}
 use Rattle.values.specs.Values.{number}

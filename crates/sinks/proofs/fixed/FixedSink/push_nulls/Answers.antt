@@ -1,4 +1,4 @@
-use Rattle.std.proofs.Common.{◌≡◌, true, false, [], ◌∷◌, length, take, replicate, pos, sym, refl, ap, ◌∙◌, rules}
+use Rattle.std.proofs.Common.{true, false, [], ◌∷◌, take, replicate, pos, refl, ap, rules}
 use lib.ListN.{length-replicate}
 use Rattle.values.specs.Values.{number}
 use Rattle.sinks.specs.Fixed.{of_rows}
