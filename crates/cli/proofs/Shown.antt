@@ -1,8 +1,8 @@
 -- The text of a row, from what a sink and its validity answer.
-use Rattle.std.proofs.Common.{◌≡◌, ℕ, zero, suc, ◌+◌, ◌<◌, ◌≤◌, Bool, true, false, cond, List, [], ◌∷◌, ◌++◌, length, get_or, ℤ, IfOk, Some, None, Ok, Err, codes, Option, Result, sym, refl, ap, ◌∙◌, arith}
+use Rattle.std.proofs.Common.{◌≡◌, ℕ, zero, suc, ◌+◌, ◌<◌, ◌≤◌, Bool, true, false, cond, List, [], ◌∷◌, length, get_or, ℤ, IfOk, Some, None, Ok, Err, codes, Result, refl, ap, ◌∙◌, arith}
 use Rattle.std.specs.Fmt.{signed_decimal}
-use Rattle.values.specs.Values.{Value, number, flag, bytes, Row, null, value, Seen, a_number, a_flag, seen_as, seen_at, weight, rows_in, bit_at}
-use Rattle.cli.specs.Layout.{text_of_value, text_of_flag, text_at, text_of_row, row_at_text}
+use Rattle.values.specs.Values.{Value, number, flag, bytes, a_number, a_flag, seen_as, seen_at, weight, rows_in, bit_at}
+use Rattle.cli.specs.Layout.{text_of_value, text_of_flag, text_at, row_at_text}
 
 number_first : (p : ℕ) (v : Value) (z : ℤ) → Some (seen_as p v) ≡ Some (a_number z) → text_of_value v ≡ signed_decimal z
 number_first p (number n) z e = let s : n ≡ z = cc in ap signed_decimal s

@@ -1,7 +1,7 @@
 -- How a chunk is printed: its rows between brackets, each after a comma and a space but the first.
-use Rattle.std.specs.Prelude.{ℕ, zero, suc, ◌+◌, ◌/◌, ◌%◌, Bool, true, false, cond, ◌||◌, List, [], ◌∷◌, ◌++◌, Some, None, codes, Option, ◌==◌, nat_lt}
+use Rattle.std.specs.Prelude.{ℕ, zero, suc, ◌+◌, ◌/◌, ◌%◌, Bool, true, false, cond, ◌||◌, List, [], ◌∷◌, ◌++◌, codes, ◌==◌, nat_lt}
 use Rattle.std.specs.Fmt.{signed_decimal}
-use Rattle.values.specs.Values.{Value, number, flag, bytes, Row, null, value, row_at}
+use Rattle.values.specs.Values.{Value, number, flag, bytes, Row, null, value}
 
 -- a hexadecimal digit
 abbrev pub hex : ℕ → ℕ

@@ -1,5 +1,5 @@
 -- The options after the first words: --conversion and its word, --directory and a file of heads, --json.
-use Rattle.std.specs.Prelude.{ℕ, ◌+◌, Bool, true, false, cond, List, [], ◌∷◌, Some, None, Ok, Err, codes, Option, Result}
+use Rattle.std.specs.Prelude.{ℕ, ◌+◌, true, false, cond, List, [], ◌∷◌, Some, None, Ok, Err, codes, Result}
 use Rattle.std.specs.Str.{bytes_eq}
 use Rattle.faults.specs.declared.types.Kind.{Kind}
 use Rattle.faults.specs.declared.types.Kind.TheVariants as kind

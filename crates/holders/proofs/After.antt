@@ -1,6 +1,6 @@
 -- Values that stand after their lengths.
-use Rattle.std.proofs.Common.{◌≡◌, ℕ, zero, suc, ◌+◌, ◌-◌, ◌<◌, ◌≤◌, Bool, true, false, List, [], ◌∷◌, is_some, Some, None, Option, sym, refl, ap, ◌∙◌, arith}
-use Rattle.holders.specs.Judge.{some_then, put, counted, arrays_in}
+use Rattle.std.proofs.Common.{◌≡◌, ℕ, suc, ◌+◌, ◌-◌, ◌<◌, false, List, is_some, Some, None, Option, sym, refl, arith}
+use Rattle.holders.specs.Judge.{put, counted, arrays_in}
 
 pub some_put : {A : Type 0} (x : A) (o : Option (List A)) → is_some (put x o) ≡ is_some o
 some_put x (Some xs) = refl

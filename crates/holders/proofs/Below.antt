@@ -1,12 +1,12 @@
 -- Indices below the entries, run by run.
-use Rattle.std.proofs.Common.{◌≡◌, ℕ, zero, suc, ◌+◌, ◌-◌, ◌*◌, ◌/◌, ◌%◌, ◌^◌, ◌<◌, ◌≤◌, min, Bool, true, false, cond, ◌&&◌, eqb, ltb, leb, List, [], ◌∷◌, ◌++◌, map, length, take, drop, replicate, is_some, Some, None, Ok, Err, Option, Result, sym, refl, ap, ◌∙◌, mul-le-mul_right, mul_assoc, mul_comm, arith, length-take, le-leb, leb-true}
+use Rattle.std.proofs.Common.{◌≡◌, ℕ, zero, suc, ◌+◌, ◌-◌, ◌*◌, ◌/◌, ◌%◌, ◌^◌, ◌<◌, ◌≤◌, min, Bool, true, false, cond, ◌&&◌, eqb, ltb, leb, List, [], ◌∷◌, ◌++◌, length, take, drop, replicate, Ok, Err, Result, sym, refl, ap, ◌∙◌, mul-le-mul_right, mul_assoc, mul_comm, arith, length-take, leb-true}
 use native.Mathlib.Nat.{min-zero, zero-min, suc-min-suc}
-use Rattle.std.specs.List.{flat_map, slice_get}
+use Rattle.std.specs.List.{flat_map}
 use Rattle.hybrid_rle.specs.Header.{Read, header}
-use Rattle.hybrid_rle.specs.Runs.{Stretch, packed, repeated, One, cut, run_of, run, runs, onto, ahead, allowed, numbers, count, fields, field, all_below}
+use Rattle.hybrid_rle.specs.Runs.{Stretch, packed, repeated, One, cut, run_of, run, runs, ahead, allowed, numbers, count, fields, field, all_below}
 use Rattle.values.specs.Little.{little}
 use Rattle.hybrid_rle.specs.declared.header.Broken.{Broken}
-use Rattle.hybrid_rle.specs.declared.header.Broken.TheVariants.{Above, Short}
+use Rattle.hybrid_rle.specs.declared.header.Broken.TheVariants.{Short}
 use Rattle.hybrid_rle.specs.Borrowed.{stretch}
 use Rattle.hybrid_rle.specs.declared.runs.Run.{Run}
 use Rattle.hybrid_rle.specs.declared.runs.Run.TheVariants.{Bitmap, Repeated}

@@ -1,5 +1,5 @@
 -- Values by their indices.
-use Rattle.std.proofs.Common.{◌≡◌, ℕ, zero, suc, ◌+◌, ◌-◌, ◌*◌, ◌^◌, ◌<◌, ◌≤◌, Bool, true, false, cond, ◌&&◌, eqb, ltb, leb, List, [], ◌∷◌, ◌++◌, map, length, is_some, Some, None, Ok, Err, Option, Result, sym, refl, ap, ◌∙◌, arith, Bor, le-ltb, lt-ltb, eq-eqb, le-leb}
+use Rattle.std.proofs.Common.{◌≡◌, ℕ, zero, suc, ◌-◌, ◌*◌, ◌^◌, ◌≤◌, Bool, true, false, cond, ◌&&◌, eqb, ltb, leb, List, [], ◌∷◌, ◌++◌, length, is_some, Some, None, Ok, Err, Option, Result, sym, refl, ap, ◌∙◌, arith, Bor, le-ltb, lt-ltb, eq-eqb, le-leb}
 use Rattle.std.proofs.lemmas.Bool.Decides.{nat_tests}
 use Rattle.std.specs.List.{flat_map, slice_get}
 use Rattle.hybrid_rle.specs.Runs.{runs, sound, all_below}
@@ -8,7 +8,7 @@ use Rattle.hybrid_rle.proofs.Streams.{Counts, counts_by}
 use Rattle.faults.specs.Faults.{then_do}
 use Rattle.faults.specs.declared.types.Cause.{Cause}
 use Rattle.faults.specs.declared.types.Cause.TheVariants.{Values as no-values, Index, NoDictionary}
-use Rattle.holders.specs.Judge.{some_then, put, or_else, no_fault, width_of, indices, chosen, values, entries, fixed, parts}
+use Rattle.holders.specs.Judge.{some_then, put, or_else, no_fault, width_of, indices, chosen, values, entries, parts}
 use Rattle.holders.specs.Left.{ok_some, dict_entries, values_left}
 use Rattle.holders.specs.Shapes.{sure}
 use Rattle.holders.specs.Counts.{below}

@@ -1,9 +1,9 @@
 -- Laws of rows filled in.
-use Rattle.std.proofs.Common.{◌≡◌, ℕ, zero, suc, ◌+◌, ◌-◌, ◌<◌, ◌≤◌, Bool, true, false, cond, List, [], ◌∷◌, ◌++◌, map, length, take, drop, replicate, sym, refl, ap, ◌∙◌, subst, zero-add, arith, length-drop}
+use Rattle.std.proofs.Common.{◌≡◌, ℕ, zero, suc, ◌+◌, ◌-◌, ◌<◌, ◌≤◌, Bool, true, false, List, [], ◌∷◌, ◌++◌, length, drop, replicate, sym, refl, ap, ◌∙◌, subst, zero-add, arith, length-drop}
 use Rattle.std.proofs.lemmas.List.{append_assoc, drop-drop, replicate-append-replicate}
 use Rattle.hybrid_rle.specs.Rows.{bits, present as row}
 use Rattle.hybrid_rle.specs.Runs.{bit}
-use Rattle.values.specs.Values.{Value, Room, fits, joined}
+use Rattle.values.specs.Values.{Value, Room, fits}
 use Rattle.sinks.proofs.Rooms.{fits_front}
 use Rattle.holders.specs.Judge.{needed}
 use Rattle.holders.specs.Filled.{filled, Able}

@@ -1,5 +1,5 @@
 -- Values, one after the other.
-use Rattle.std.proofs.Common.{◌≡◌, ℕ, zero, suc, ◌+◌, ◌-◌, ◌*◌, ◌^◌, ◌<◌, ◌≤◌, min, Bool, true, false, cond, eqb, leb, List, [], ◌∷◌, ◌++◌, map, length, take, drop, is_some, Some, None, Option, sym, refl, ap, ◌∙◌, subst, suc-mul, arith, length-drop, eq-eqb, eqb-true, le-leb, leb-true}
+use Rattle.std.proofs.Common.{◌≡◌, ℕ, zero, suc, ◌+◌, ◌-◌, ◌*◌, ◌^◌, ◌<◌, ◌≤◌, min, Bool, true, false, cond, eqb, leb, List, [], ◌∷◌, map, length, take, drop, is_some, Some, None, Option, sym, refl, ap, ◌∙◌, subst, suc-mul, arith, length-drop, eq-eqb, eqb-true, le-leb, leb-true}
 use borrow.Author.Tests.{true-ltb}
 use Rattle.std.specs.List.{slice_get}
 use Rattle.holders.specs.Judge.{put, some_then, parts, counted, arrays_in, chosen, coded}

@@ -1,6 +1,6 @@
 -- What a holder keeps, in the terms of the loops over its rows.
-use Rattle.std.proofs.Common.{◌≡◌, ℕ, zero, suc, ◌+◌, ◌-◌, ◌≤◌, min, Bool, true, false, ◌&&◌, leb, List, [], ◌∷◌, ◌++◌, map, length, take, drop, replicate, sym, refl, ap, ◌∙◌, subst, arith, length-append, length-drop}
-use lib.ListN.{length-map, length-replicate}
+use Rattle.std.proofs.Common.{◌≡◌, ℕ, zero, suc, ◌+◌, ◌-◌, ◌≤◌, Bool, true, false, ◌&&◌, leb, List, [], ◌∷◌, ◌++◌, map, length, take, drop, replicate, sym, refl, ap, ◌∙◌, subst, arith, length-append, length-drop}
+use lib.ListN.{length-map}
 use Rattle.std.proofs.lemmas.List.{take-map, take-replicate, drop-replicate, length-take-le}
 use Rattle.std.proofs.lemmas.Bool.{le-leb}
 use Rattle.hybrid_rle.specs.declared.validity.OptionalPageValidity.{OptionalPageValidity}
@@ -16,7 +16,7 @@ use Rattle.holders.specs.Left.{present_left}
 use Rattle.holders.specs.Cursors.{to_give}
 use Rattle.holders.specs.declared.holder.Holder.{Holder}
 use Rattle.holders.specs.declared.page_values.PageValues.{PageValues}
-use Rattle.holders.proofs.Spreads.{needed_all, needed_cut, first_stands, first_validity, rows_left, needs_left, enough_first}
+use Rattle.holders.proofs.Spreads.{needed_all, first_stands, first_validity, rows_left, needs_left, enough_first}
 use Rattle.holders.proofs.Validities.{filled_values}
 use Rattle.holders.proofs.Measures.{filled_weight, leb_same}
 use Rattle.model.proofs.Rows.{length_stands}

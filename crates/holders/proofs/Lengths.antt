@@ -1,11 +1,11 @@
 -- How many values there are.
-use Rattle.std.proofs.Common.{◌≡◌, ℕ, zero, suc, ◌+◌, ◌-◌, ◌*◌, ◌/◌, ◌%◌, ◌^◌, ◌<◌, ◌≤◌, min, Bool, true, false, cond, eqb, ltb, leb, List, [], ◌∷◌, ◌++◌, map, length, take, drop, replicate, is_some, Some, None, Ok, Err, Option, Result, sym, refl, ap, ◌∙◌, arith, eqb-true, leb-true}
-use lib.ListN.{length-map, length-replicate}
-use Rattle.std.specs.List.{slice_get, flat_map}
-use Rattle.hybrid_rle.specs.Runs.{fields, runs}
+use Rattle.std.proofs.Common.{◌≡◌, ℕ, zero, suc, ◌+◌, ◌*◌, ◌^◌, min, Bool, true, false, cond, eqb, leb, List, [], ◌∷◌, map, length, drop, is_some, Some, None, Option, sym, refl, ap, ◌∙◌, arith, eqb-true}
+use lib.ListN.{length-map}
+use Rattle.std.specs.List.{slice_get}
+use Rattle.hybrid_rle.specs.Runs.{fields}
 use Rattle.hybrid_rle.proofs.Streams.{length_fields}
-use Rattle.holders.specs.Judge.{some_then, put, parts, counted, arrays_in, entries, fixed, chosen, needed, spread}
-use Rattle.holders.specs.Left.{at_least, plain_left, values_left, dict_entries, indices_left, or_none}
+use Rattle.holders.specs.Judge.{some_then, put, parts, counted, arrays_in, chosen, needed, spread}
+use Rattle.holders.specs.Left.{plain_left, values_left, dict_entries, indices_left, or_none}
 use Rattle.holders.specs.declared.types.Form.{Form}
 use Rattle.holders.specs.declared.types.Form.TheVariants.{Four, Eight, Bits, Arrays}
 use Rattle.holders.specs.declared.types.Values.{Values}

@@ -1,9 +1,9 @@
 -- One value among those that there are.
-use Rattle.std.proofs.Common.{◌≡◌, ℕ, zero, suc, ◌+◌, ◌-◌, ◌*◌, ◌<◌, ◌≤◌, Bool, true, false, cond, eqb, List, [], ◌∷◌, length, take, drop, is_some, Some, None, Option, sym, refl, ap, ◌∙◌, mul-le-mul_right, suc-mul, add-mul, zero-mul, arith, eqb-true}
+use Rattle.std.proofs.Common.{◌≡◌, ℕ, zero, suc, ◌+◌, ◌-◌, ◌*◌, ◌<◌, ◌≤◌, Bool, true, false, cond, eqb, List, length, take, drop, is_some, Some, None, Option, sym, refl, ap, ◌∙◌, mul-le-mul_right, suc-mul, add-mul, zero-mul, arith, eqb-true}
 use borrow.Author.Tests.{both_ways}
 use Rattle.std.specs.List.{slice_get}
 use Rattle.std.proofs.lemmas.List.{drop-drop}
-use Rattle.holders.specs.Judge.{some_then, put, parts, counted, arrays_in, fixed}
+use Rattle.holders.specs.Judge.{put, parts, counted, arrays_in, fixed}
 use Rattle.holders.specs.Entries.{nth_in}
 
 opened : (x : List ℕ) (o : Option (List (List ℕ))) → is_some (put x o) ≡ true → (is_some o ≡ true) × ((j : ℕ) → nth_in (put x o) (suc j) ≡ nth_in o j) × (nth_in (put x o) 0 ≡ Some x)

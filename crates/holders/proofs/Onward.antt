@@ -1,11 +1,10 @@
 -- Indices, one after the other.
-use Rattle.std.proofs.Common.{◌≡◌, ℕ, zero, suc, ◌+◌, ◌-◌, ◌*◌, ◌^◌, ◌<◌, ◌≤◌, min, Bool, true, false, cond, ◌&&◌, leb, List, [], ◌∷◌, ◌++◌, length, take, replicate, is_some, Some, None, Ok, Err, Option, Result, sym, refl, ap, ◌∙◌, mul-le-mul_right, suc-mul, arith, le-leb, leb-true}
-use Rattle.std.specs.List.{flat_map}
-use Rattle.hybrid_rle.specs.Runs.{Stretch, packed, repeated, run, runs, onto, ahead, allowed, numbers, count, field, fields}
+use Rattle.std.proofs.Common.{◌≡◌, ℕ, zero, suc, ◌+◌, ◌-◌, ◌*◌, ◌^◌, ◌<◌, ◌≤◌, min, Bool, true, false, cond, ◌&&◌, leb, List, [], ◌∷◌, length, take, replicate, is_some, Some, None, Ok, Err, Option, Result, sym, refl, ap, ◌∙◌, mul-le-mul_right, suc-mul, arith, le-leb, leb-true}
+use Rattle.hybrid_rle.specs.Runs.{Stretch, packed, repeated, run, runs, ahead, allowed, numbers, count, field, fields}
 use Rattle.hybrid_rle.specs.declared.header.Broken.{Broken}
 use Rattle.hybrid_rle.specs.declared.header.Broken.TheVariants.{Above}
 use Rattle.hybrid_rle.proofs.Streams.{runs_more}
-use Rattle.holders.specs.Judge.{put, some_then}
+use Rattle.holders.specs.Judge.{put}
 use Rattle.holders.specs.Left.{ok_some, current_numbers, numbers_left}
 use Rattle.holders.specs.Entries.{current_count}
 use Rattle.holders.specs.declared.types.Numbers.{Numbers}

@@ -1,5 +1,5 @@
 -- Rows by presence.
-use Rattle.std.proofs.Common.{◌≡◌, ℕ, ◌≤◌, Bool, true, false, cond, leb, List, [], ◌∷◌, map, length, replicate, is_some, is_ok, Some, None, Ok, Err, Option, Result, sym, refl, ap, ◌∙◌, arith, leb-true}
+use Rattle.std.proofs.Common.{◌≡◌, ℕ, ◌≤◌, Bool, true, false, cond, leb, List, map, length, Some, Ok, Err, Option, Result, sym, refl, ap, ◌∙◌, arith, leb-true}
 use lib.ListN.{length-replicate}
 use Rattle.std.specs.Option.{option_map}
 use Rattle.hybrid_rle.specs.Runs.{runs, sound}
@@ -11,13 +11,13 @@ use Rattle.hybrid_rle.proofs.Pieces.{rows_count}
 use Rattle.faults.specs.Faults.{then_do}
 use Rattle.faults.specs.declared.types.Cause.{Cause}
 use Rattle.faults.specs.declared.types.Cause.TheVariants.{Validity, Rows}
-use Rattle.holders.specs.Judge.{split, needed, counted, or_else, no_fault, few, flagged, encoded, values, spread, page_rows}
+use Rattle.holders.specs.Judge.{split, needed, counted, no_fault, few, flagged, encoded, values, spread, page_rows}
 use Rattle.holders.specs.Left.{present_left, values_left}
 use Rattle.holders.specs.Counts.{tallied}
-use Rattle.holders.specs.Shapes.{left_in, sure, shown}
+use Rattle.holders.specs.Shapes.{sure}
 use Rattle.holders.specs.declared.types.Form.{Form}
 use Rattle.holders.specs.declared.types.Values.{Values}
-use Rattle.holders.proofs.Tally.{needed_true, needed_most}
+use Rattle.holders.proofs.Tally.{needed_true}
 
 -- what the parts of a page are
 pub record Parted (o : Bool) (m n : ℕ) (v : OptionalPageValidity) (values body : List ℕ) : Type 0 where

@@ -1,8 +1,6 @@
 -- Counting present rows, run by run.
-use Rattle.std.proofs.Common.{◌≡◌, ℕ, zero, suc, ◌+◌, ◌-◌, ◌*◌, ◌<◌, ◌≤◌, min, Bool, true, false, cond, eqb, ltb, leb, List, [], ◌∷◌, ◌++◌, map, length, take, drop, replicate, Ok, Err, Result, sym, refl, ap, ◌∙◌, add-zero, arith, length-take, eq-eqb, ne_eqb, le-leb}
-use borrow.Author.Tests.{lt-leb}
-use Rattle.std.specs.List.{flat_map}
-use Rattle.hybrid_rle.specs.Runs.{Stretch, packed, repeated, One, run, runs, onto, ahead, allowed, numbers, count, bit, field, fields}
+use Rattle.std.proofs.Common.{◌≡◌, ℕ, zero, suc, ◌+◌, ◌-◌, ◌<◌, ◌≤◌, min, Bool, true, false, cond, eqb, leb, List, [], ◌∷◌, ◌++◌, map, length, take, replicate, Ok, Err, Result, sym, refl, ap, ◌∙◌, arith, eq-eqb, ne_eqb, le-leb}
+use Rattle.hybrid_rle.specs.Runs.{Stretch, packed, repeated, run, runs, ahead, allowed, numbers, count, bit, field, fields}
 use Rattle.hybrid_rle.specs.Rows.{present, flat, bits}
 use Rattle.hybrid_rle.specs.declared.header.Broken.{Broken}
 use Rattle.hybrid_rle.specs.declared.header.Broken.TheVariants.{Above}

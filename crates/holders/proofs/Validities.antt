@@ -1,11 +1,9 @@
 -- Laws of bits and their appends.
-use Rattle.std.proofs.Common.{◌≡◌, ℕ, zero, suc, ◌+◌, ◌-◌, ◌*◌, ◌^◌, ◌<◌, ◌≤◌, Bool, true, false, cond, T, leb, List, [], ◌∷◌, ◌++◌, map, length, take, drop, replicate, is_ok, sym, refl, ap, ◌∙◌, subst, arith}
-use lib.ListN.{length-replicate}
+use Rattle.std.proofs.Common.{◌≡◌, ℕ, zero, suc, ◌+◌, ◌*◌, ◌^◌, ◌<◌, ◌≤◌, Bool, true, false, cond, leb, List, [], ◌∷◌, ◌++◌, length, take, drop, replicate, is_ok, sym, refl, ap, ◌∙◌, arith}
 use Rattle.std.proofs.lemmas.Bool.{le-leb}
 use Rattle.bitmap.specs.Bitmaps.{part, capacity, bit_at}
 use Rattle.bitmap.specs.Refusals.{sliced}
-use Rattle.hybrid_rle.specs.Rows.{bits, present as row}
-use Rattle.hybrid_rle.specs.Runs.{bit}
+use Rattle.hybrid_rle.specs.Rows.{bits}
 use Rattle.values.specs.Values.{Value, Room, fits, joined}
 use Rattle.holders.specs.Judge.{needed}
 use Rattle.holders.specs.Filled.{filled, Able}

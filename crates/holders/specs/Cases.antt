@@ -1,10 +1,10 @@
 -- The worked cases.
-use Rattle.std.specs.Prelude.{◌≡◌, ℕ, Bool, true, false, List, [], ◌∷◌, ℤ, pos, neg_ℤ, Some, None, Option}
-use Rattle.pages.specs.Delivered.{Delivered, page, dict, fault}
+use Rattle.std.specs.Prelude.{◌≡◌, ℕ, true, false, List, [], ◌∷◌, pos, neg_ℤ, Some, None, Option}
+use Rattle.pages.specs.Delivered.{page, dict, fault}
 use Rattle.faults.specs.declared.types.Cause.TheVariants.{Source, Rows, Flag, Encoding, NoDictionary, Validity, Values, Index, Dictionary}
-use Rattle.values.specs.Values.{Row, null, value, number, flag, bytes}
+use Rattle.values.specs.Values.{null, value, number, flag, bytes}
 use Rattle.model.specs.Model.{verdict, Page, Holds, Broken}
-use Rattle.holders.specs.Convert.{int32_keep, int32_as_wide, int32_as_unsigned, int64_keep, boolean, byte_array_column}
+use Rattle.holders.specs.Convert.{int32_keep, int32_as_wide, int32_as_unsigned, boolean, byte_array_column}
 
 abbrev ones : List ℕ
 ones = 0xFF ∷ 0xFF ∷ 0xFF ∷ 0xFF ∷ []

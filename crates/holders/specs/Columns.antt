@@ -1,5 +1,5 @@
 -- The columns: what a delivery comes to once each value's bytes are converted.
-use Rattle.std.specs.Prelude.{◌≡◌, ℕ, zero, suc, Bool, true, false, cond, List, [], ◌∷◌, map, replicate, Some, None, Ok, Err, Option, Result, refl}
+use Rattle.std.specs.Prelude.{◌≡◌, ℕ, zero, suc, Bool, true, false, List, [], ◌∷◌, map, replicate, Some, None, Ok, Err, Option, Result, refl}
 use Rattle.std.proofs.Common.{arith}
 use Rattle.faults.specs.declared.types.Cause.{Cause}
 use Rattle.faults.specs.Faults.{then_do}

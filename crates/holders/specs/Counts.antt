@@ -1,7 +1,7 @@
 -- How many rows of runs are present.
-use Rattle.std.specs.Prelude.{ℕ, ◌+◌, ◌*◌, min, Bool, true, false, cond, List, [], ◌∷◌, map, length, take, Ok, Err, Result}
+use Rattle.std.specs.Prelude.{ℕ, ◌*◌, min, Bool, false, cond, List, map, length, take, Ok, Err, Result}
 use Rattle.std.specs.List.{flat_map}
-use Rattle.hybrid_rle.specs.Runs.{Stretch, packed, repeated, count, numbers, allowed, all_below}
+use Rattle.hybrid_rle.specs.Runs.{Stretch, count, numbers, allowed, all_below}
 use Rattle.hybrid_rle.specs.Rows.{present, flat}
 use Rattle.hybrid_rle.specs.declared.header.Broken.{Broken}
 use Rattle.hybrid_rle.specs.declared.header.Broken.TheVariants.{Above}

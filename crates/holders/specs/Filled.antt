@@ -1,5 +1,5 @@
 -- What rows put into a chunk: each present row takes the next value, a null a stand-in.
-use Rattle.std.specs.Prelude.{◌≡◌, ℕ, ◌≤◌, Bool, true, List, ◌++◌, map, length, Some, None, Option}
+use Rattle.std.specs.Prelude.{◌≡◌, ◌≤◌, Bool, true, List, ◌++◌, map, length, Some, None, Option}
 use Rattle.values.specs.Values.{Value, Room, fits}
 use Rattle.holders.specs.Judge.{needed, spread}
 

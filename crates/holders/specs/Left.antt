@@ -1,14 +1,12 @@
 -- What is left of a page's values.
-use Rattle.std.specs.Prelude.{ℕ, zero, suc, ◌+◌, ◌-◌, ◌*◌, ◌/◌, ◌%◌, ◌^◌, min, Bool, true, false, cond, ◌&&◌, List, [], ◌∷◌, ◌++◌, map, length, replicate, is_some, Some, None, Ok, Err, Option, Result, ◌==◌, nat_le}
+use Rattle.std.specs.Prelude.{ℕ, ◌+◌, ◌-◌, ◌*◌, ◌^◌, min, Bool, true, false, cond, ◌&&◌, List, [], ◌∷◌, ◌++◌, map, length, replicate, is_some, Some, None, Ok, Err, Option, Result, ◌==◌, nat_le}
 use Rattle.std.specs.List.{flat_map}
-use Rattle.std.specs.Option.{option_map}
 use Rattle.hybrid_rle.specs.Runs.{fields, runs}
 use Rattle.hybrid_rle.specs.Rows.{flat}
 use Rattle.hybrid_rle.specs.Cursor.{to_come}
 use Rattle.hybrid_rle.specs.declared.header.Broken.{Broken}
 use Rattle.hybrid_rle.specs.declared.validity.OptionalPageValidity.{OptionalPageValidity}
-use Rattle.faults.specs.declared.types.Cause.{Cause}
-use Rattle.holders.specs.Judge.{some_then, parts, arrays_in, entries, chosen, needed, spread, coded}
+use Rattle.holders.specs.Judge.{some_then, parts, arrays_in, entries, chosen}
 use Rattle.holders.specs.declared.types.Form.{Form}
 use Rattle.holders.specs.declared.types.Form.TheVariants.{Four, Eight, Bits, Arrays}
 use Rattle.holders.specs.declared.types.Dict.{Dict}

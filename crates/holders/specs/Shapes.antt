@@ -1,8 +1,8 @@
 -- The answers of the checks, by what they mean.
-use Rattle.std.specs.Prelude.{ℕ, Bool, true, false, cond, List, [], ◌∷◌, Some, None, Ok, Err, Option, Result}
+use Rattle.std.specs.Prelude.{ℕ, Bool, true, List, Some, None, Ok, Err, Option, Result}
 use Rattle.std.specs.Borrow.{Bor}
 use Rattle.faults.specs.declared.types.Cause.{Cause}
-use Rattle.holders.specs.Judge.{needed, spread}
+use Rattle.holders.specs.Judge.{spread}
 use Rattle.std.specs.Option.{option_map}
 use Rattle.holders.specs.Left.{held_entries, dict_fine, values_left}
 use Rattle.holders.specs.declared.types.Form.{Form}

@@ -1,5 +1,5 @@
 -- What the words of the command line ask for.
-use Rattle.std.specs.Prelude.{◌≡◌, ℕ, ◌<◌, ◌≤◌, List, Some, Ok, Result}
+use Rattle.std.specs.Prelude.{◌≡◌, ℕ, ◌<◌, ◌≤◌, List, Some, Ok}
 use Rattle.std.specs.Str.Parse.{ParsesUnsigned}
 use Rattle.faults.specs.Names.{kind_of}
 use Rattle.faults.specs.declared.types.Kind.TheVariants.{Int32}

@@ -1,4 +1,4 @@
-use Rattle.std.proofs.Common.{sym, ap, ◌∙◌, arith, rules}
+use Rattle.std.proofs.Common.{ap, ◌∙◌, arith, rules}
 use Rattle.cli.specs.Words.{decimal}
 use Rattle.cli.proofs.Figures.{more_figures, no_figure, all_figures}
 use Rattle.cli.proofs.decimal.decimal_of.Goals as goal

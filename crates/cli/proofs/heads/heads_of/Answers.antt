@@ -1,5 +1,3 @@
-use Rattle.std.proofs.Common.{◌≡◌, sym, ap, arith, rules}
-use Rattle.cli.specs.HeadFile.{front_head}
 use Rattle.cli.proofs.Figures.{front_long, front_is, more_heads, same_over}
 use Rattle.cli.proofs.heads.heads_of.Goals as goal
 

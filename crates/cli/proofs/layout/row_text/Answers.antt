@@ -1,5 +1,5 @@
-use Rattle.std.proofs.Common.{◌≡◌, true, false, cond, string_bytes, codes, sym, ap, ◌∙◌, rules}
-use Rattle.values.specs.Values.{bit_at, rows_in}
+use Rattle.std.proofs.Common.{◌≡◌, cond, string_bytes, codes, sym, ap, ◌∙◌, rules}
+use Rattle.values.specs.Values.{rows_in}
 use Rattle.cli.specs.Layout.{text_at, row_at_text}
 use Rattle.cli.proofs.Shown.{shown_row, made_as}
 use Rattle.cli.proofs.layout.row_text.Goals as goal

@@ -1,4 +1,4 @@
-use Rattle.std.proofs.Common.{◌≡◌, ◌<◌, ◌≤◌, length, string_bytes, codes, sym, refl, ap, ◌∙◌, arith, rules}
+use Rattle.std.proofs.Common.{◌≡◌, ◌<◌, ◌≤◌, length, string_bytes, codes, refl, ap, ◌∙◌, arith}
 use Rattle.values.specs.Values.{rows_in}
 use Rattle.model.proofs.Rows.{length_rows}
 use Rattle.cli.specs.Layout.{row_at_text}

@@ -1,4 +1,4 @@
-use Rattle.std.proofs.Common.{codes, refl, arith, rules}
+use Rattle.std.proofs.Common.{codes, refl, rules}
 use Rattle.cli.proofs.Laid.{byte_on, bytes_out}
 use Rattle.cli.proofs.numbers.quoted.Goals as goal
 

@@ -1,4 +1,4 @@
-use Rattle.std.proofs.Common.{string_bytes, sym, ap, ◌∙◌, arith}
+use Rattle.std.proofs.Common.{string_bytes, ap, ◌∙◌, arith}
 use Rattle.cli.specs.Options.{after_word}
 use Rattle.cli.proofs.Figures.{more_words, wrong_word, last_word}
 use Rattle.cli.proofs.options.read_options.Goals as goal

@@ -1,4 +1,4 @@
-use Rattle.std.proofs.Common.{◌≡◌, sym, ap, ◌∙◌, arith}
+use Rattle.std.proofs.Common.{sym, ◌∙◌, arith}
 use Rattle.holders.proofs.After.{arrays_stop, arrays_more}
 use Rattle.holders.proofs.arrays.arrays_fit.Goals as goal
 

@@ -1,4 +1,4 @@
-use Rattle.std.proofs.Common.{◌≡◌, ◌++◌, drop, sym, ap, ◌∙◌, arith}
+use Rattle.std.proofs.Common.{◌++◌, drop, ap, ◌∙◌, arith}
 use Rattle.values.specs.Values.{fits}
 use Rattle.holders.proofs.Validities.{filled_values, needed_values}
 use Rattle.holders.proofs.decode.extend_required.Goals as goal

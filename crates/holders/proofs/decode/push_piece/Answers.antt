@@ -1,4 +1,4 @@
-use Rattle.std.proofs.Common.{◌≡◌, ◌+◌, ◌≤◌, true, false, leb, ◌++◌, length, drop, replicate, is_ok, Some, sym, refl, ap, ◌∙◌, subst, arith, rules}
+use Rattle.std.proofs.Common.{◌≡◌, ◌+◌, true, ◌++◌, length, drop, replicate, is_ok, Some, sym, ap, ◌∙◌, subst, arith}
 use lib.ListN.{length-replicate}
 use Rattle.std.proofs.lemmas.Bool.{le-leb}
 use Rattle.hybrid_rle.specs.Rows.{bits}

@@ -1,4 +1,4 @@
-use Rattle.std.proofs.Common.{◌≡◌, sym, ap, ◌∙◌, arith, rules}
+use Rattle.std.proofs.Common.{◌∙◌, arith}
 use Rattle.holders.proofs.Nth.{there, step_on, last_one}
 use Rattle.holders.proofs.entry.array_at.Goals as goal
 

@@ -1,4 +1,4 @@
-use Rattle.std.proofs.Common.{◌≡◌, ◌+◌, ◌-◌, ◌*◌, take, drop, Some, sym, ap, ◌∙◌, arith}
+use Rattle.std.proofs.Common.{◌≡◌, ◌+◌, ◌-◌, ◌*◌, take, drop, Some, ap, ◌∙◌, arith}
 use Rattle.holders.proofs.Nth.{part_there}
 use Rattle.holders.proofs.entry.part_at.Goals as goal
 

@@ -1,4 +1,4 @@
-use Rattle.std.proofs.Common.{◌≡◌, ◌+◌, ◌-◌, true, [], ◌∷◌, sym, ◌∙◌}
+use Rattle.std.proofs.Common.{◌+◌, ◌-◌, [], ◌∷◌, ◌∙◌}
 use Rattle.hybrid_rle.specs.Rows.{bits}
 use Rattle.holders.proofs.Filling.{mid_able, mid_grown, split_bits, bits_one}
 use Rattle.holders.proofs.fill.push_bits.Goals as goal

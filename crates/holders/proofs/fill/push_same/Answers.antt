@@ -1,4 +1,4 @@
-use Rattle.std.proofs.Common.{◌≡◌, true, false, replicate, sym, ap, ◌∙◌}
+use Rattle.std.proofs.Common.{replicate, ap}
 use Rattle.holders.proofs.Validities.{nulls_appended}
 use Rattle.holders.proofs.fill.push_same.Goals as goal
 

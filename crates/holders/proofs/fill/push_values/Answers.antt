@@ -1,4 +1,4 @@
-use Rattle.std.proofs.Common.{◌≡◌, ◌+◌, ◌-◌, true, [], ◌∷◌, replicate, sym, ◌∙◌}
+use Rattle.std.proofs.Common.{◌+◌, ◌-◌, true, [], ◌∷◌, replicate, sym, ◌∙◌}
 use Rattle.std.proofs.lemmas.List.{replicate_more}
 use Rattle.holders.proofs.Filling.{mid_able, mid_grown, split_same}
 use Rattle.holders.proofs.fill.push_values.Goals as goal

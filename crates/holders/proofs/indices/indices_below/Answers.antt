@@ -1,7 +1,7 @@
-use Rattle.std.proofs.Common.{◌≡◌, ◌-◌, ◌^◌, ◌<◌, sym, ap, ◌∙◌, arith, rules}
+use Rattle.std.proofs.Common.{◌-◌, sym, ap, ◌∙◌, arith}
 use Rattle.hybrid_rle.specs.Borrowed.{stretch}
 use Rattle.hybrid_rle.proofs.Streams.{run_shorter, run_at_small}
-use Rattle.holders.proofs.Below.{room_at, below_more, below_stop, below_err}
+use Rattle.holders.proofs.Below.{room_at, below_more, below_stop}
 use Rattle.holders.proofs.indices.indices_below.Goals as goal
 
 pub run_below-requires : goal.run_below-requires

@@ -1,4 +1,4 @@
-use Rattle.std.proofs.Common.{◌≡◌, sym, ap, ◌∙◌, add-mul, arith}
+use Rattle.std.proofs.Common.{sym, ◌∙◌, add-mul, arith}
 use Rattle.hybrid_rle.proofs.Places.{below_stops, below_goes, place_fits, small_width}
 use Rattle.holders.proofs.indices.packed_below.Goals as goal
 

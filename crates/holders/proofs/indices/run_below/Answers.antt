@@ -1,4 +1,4 @@
-use Rattle.std.proofs.Common.{◌≡◌, ◌≤◌, take, sym, refl, ap, ◌∙◌, subst, arith}
+use Rattle.std.proofs.Common.{◌≤◌, take, sym, refl, ap, ◌∙◌, subst}
 use Rattle.hybrid_rle.specs.Borrowed.{stretch}
 use Rattle.hybrid_rle.specs.Runs.{numbers, all_below}
 use Rattle.holders.specs.Counts.{bits_in, bits_of}

@@ -1,4 +1,3 @@
-use Rattle.std.proofs.Common.{◌≡◌, ◌+◌, sym, ap, ◌∙◌}
 use Rattle.hybrid_rle.specs.Rows.{bits}
 use Rattle.holders.proofs.Filling.{bits_one}
 use Rattle.holders.proofs.Measures.{needed_byte}

@@ -1,4 +1,4 @@
-use Rattle.std.proofs.Common.{◌≡◌, replicate, sym, ap, ◌∙◌}
+use Rattle.std.proofs.Common.{replicate, sym, ap, ◌∙◌}
 use Rattle.hybrid_rle.specs.Held.{rows}
 use Rattle.holders.specs.Judge.{needed}
 use Rattle.holders.proofs.Validities.{needed_nulls, needed_values}

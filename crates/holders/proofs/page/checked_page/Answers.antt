@@ -1,5 +1,5 @@
-use Rattle.std.proofs.Common.{◌≡◌, sym, ap, ◌∙◌, subst, arith, rules}
-use Rattle.holders.specs.Shapes.{shown, sure, left_in, if_ok}
+use Rattle.std.proofs.Common.{◌≡◌, sym, ap, ◌∙◌, arith, rules}
+use Rattle.holders.specs.Shapes.{sure}
 use Rattle.holders.specs.Judge.{values, needed}
 use Rattle.holders.specs.Left.{present_left, held_entries}
 use Rattle.holders.proofs.Parting.{page_chain, page_done, page_broken, few_most}

@@ -1,4 +1,4 @@
-use Rattle.std.proofs.Common.{◌≡◌, sym, ap, ◌∙◌, arith}
+use Rattle.std.proofs.Common.{arith}
 use Rattle.holders.proofs.Tally.{one_set, one_clear}
 use Rattle.holders.proofs.present.ones.Goals as goal
 use Rattle.holders.proofs.present.ones.Goals.{then-unpacked-eq1, else-unpacked-eq1}

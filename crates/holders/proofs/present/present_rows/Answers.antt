@@ -1,8 +1,6 @@
-use Rattle.std.proofs.Common.{◌≡◌, ◌*◌, sym, ap, ◌∙◌, arith}
+use Rattle.std.proofs.Common.{sym, ap, ◌∙◌, arith}
 use Rattle.hybrid_rle.specs.Borrowed.{stretch}
-use Rattle.hybrid_rle.specs.Runs.{runs}
 use Rattle.hybrid_rle.proofs.Streams.{run_shorter}
-use Rattle.holders.specs.Counts.{tallied}
 use Rattle.holders.proofs.Tally.{plus, plus_plus, tally_more, tally_least, run_room}
 use Rattle.holders.proofs.present.present_rows.Goals as goal
 

@@ -1,4 +1,4 @@
-use Rattle.std.proofs.Common.{◌≡◌, ◌+◌, ◌-◌, ◌≤◌, length}
+use Rattle.std.proofs.Common.{◌≡◌, ◌+◌, ◌≤◌, length}
 use Rattle.hybrid_rle.specs.Runs.{runs}
 use Rattle.holders.specs.Counts.{tallied}
 use Rattle.holders.proofs.Tally.{plus}

@@ -1,4 +1,4 @@
-use Rattle.std.proofs.Common.{◌≡◌, true, false, eqb, map, take, sym, ap, ◌∙◌, arith, eq-eqb, ne_eqb, le-leb}
+use Rattle.std.proofs.Common.{sym, ap, ◌∙◌}
 use Rattle.hybrid_rle.specs.Borrowed.{stretch}
 use Rattle.holders.specs.Counts.{run_tally}
 use Rattle.holders.proofs.Tally.{packed_tally, repeated_tally}

@@ -1,4 +1,4 @@
-use Rattle.std.proofs.Common.{◌≡◌, sym, ap, ◌∙◌, rules}
+use Rattle.std.proofs.Common.{rules}
 use Rattle.holders.proofs.Parting.{not_optional, optional_parts}
 use Rattle.holders.proofs.split.split.Goals as goal
 

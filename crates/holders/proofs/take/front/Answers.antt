@@ -1,4 +1,4 @@
-use Rattle.std.proofs.Common.{◌≡◌, true, is_some, sym, ap, ◌∙◌, subst}
+use Rattle.std.proofs.Common.{◌≡◌, true, is_some, subst}
 use Rattle.holders.specs.Left.{plain_left}
 use Rattle.holders.proofs.Fronts.{front_four, front_eight, front_array, array_room}
 use Rattle.holders.proofs.take.front.Goals as goal

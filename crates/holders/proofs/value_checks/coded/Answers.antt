@@ -1,4 +1,4 @@
-use Rattle.std.proofs.Common.{◌≡◌, sym, ap, ◌∙◌, rules}
+use Rattle.std.proofs.Common.{sym, ◌∙◌, rules}
 use Rattle.hybrid_rle.specs.Runs.{runs}
 use Rattle.hybrid_rle.proofs.Streams.{sound_at_small}
 use Rattle.holders.proofs.Codes.{coded_good, coded_bad}

@@ -1,4 +1,3 @@
-use Prim.{tt}
 use Rattle.std.proofs.Common.{codes, refl, rules}
 use Rattle.read_column.proofs.Laid.{laid_on, laid_out}
 use Rattle.read_column.proofs.layout.rows_text.Goals as goal

@@ -1,9 +1,9 @@
-use Rattle.std.proofs.Common.{◌≡◌, ℕ, ◌<◌, [], length, string_bytes, sym, refl, ap, ◌∙◌, zero-add, rules}
+use Rattle.std.proofs.Common.{ℕ, ◌<◌, [], length, string_bytes, sym, refl, ap, ◌∙◌, zero-add}
 use Rattle.values.specs.Values.{Value, bytes}
 use Rattle.sinks.specs.Offsets.{row, strings}
 use Rattle.sinks.proofs.Marks.{length_all}
 use Rattle.std.proofs.lemmas.List.FromFn.{get_or-map-range_with_len}
-use Rattle.cli.specs.Layout.{text_of_value, quoted_text, text_at}
+use Rattle.cli.specs.Layout.{text_of_value, quoted_text}
 use Rattle.cli.proofs.Shown.{shown_at, shown_past, made_as}
 use Rattle.cli.proofs.numbers.BinaryPrinted.value_text.Goals as goal
 

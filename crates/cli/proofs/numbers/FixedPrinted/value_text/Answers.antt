@@ -1,4 +1,4 @@
-use Rattle.std.proofs.Common.{◌≡◌, Some, string_bytes, sym, ap, ◌∙◌, rules}
+use Rattle.std.proofs.Common.{Some, string_bytes, sym, ap, ◌∙◌, rules}
 use Rattle.cli.proofs.Shown.{shown_none, shown_number, made_as}
 use Rattle.cli.proofs.numbers.FixedPrinted.value_text.Goals as goal
 

@@ -1,4 +1,4 @@
-use Rattle.std.proofs.Common.{◌≡◌, string_bytes, sym, ap, ◌∙◌, rules}
+use Rattle.std.proofs.Common.{string_bytes, sym, ◌∙◌, rules}
 use Rattle.cli.proofs.Shown.{shown_none, shown_flag, made_as}
 use Rattle.cli.proofs.numbers.MutableBitmapPrinted.value_text.Goals as goal
 

@@ -1,4 +1,4 @@
-use Rattle.std.proofs.Common.{◌≡◌, ◌+◌, ◌≤◌, ◌++◌, length, take, sym, refl, ap, ◌∙◌, subst, append-nil, arith}
+use Rattle.std.proofs.Common.{◌+◌, ◌≤◌, ◌++◌, length, take, sym, refl, ap, ◌∙◌, subst, append-nil, arith}
 use Rattle.model.specs.Model.{bits_due, bits_for}
 use Rattle.holders.specs.Holding.{unused_as}
 use Rattle.holders.proofs.holder.Holder.append.Goals as goal

@@ -1,4 +1,4 @@
-use Rattle.std.proofs.Common.{◌≡◌, ◌++◌, take, drop, sym, refl, ap, ◌∙◌, subst}
+use Rattle.std.proofs.Common.{◌++◌, take, drop, sym, refl, ap, ◌∙◌, subst}
 use Rattle.hybrid_rle.specs.Cursor.{to_come}
 use Rattle.hybrid_rle.specs.Rows.{flat}
 use Rattle.values.specs.Values.{fits}

@@ -1,4 +1,4 @@
-use Rattle.std.proofs.Common.{◌≡◌, ◌≤◌, leb, map, length, take, ap, ◌∙◌, arith}
+use Rattle.std.proofs.Common.{◌≤◌, leb, map, length, take, ap, ◌∙◌, arith}
 use Rattle.values.specs.Values.{weights}
 use Rattle.holders.specs.Judge.{needed}
 use Rattle.holders.specs.Left.{present_left}

@@ -1,4 +1,4 @@
-use Rattle.std.proofs.Common.{◌≡◌, true, is_some, ◌∙◌, sym, subst}
+use Rattle.std.proofs.Common.{◌≡◌, true, is_some, subst}
 use Rattle.holders.specs.Left.{values_left}
 use Rattle.holders.proofs.Found.{sound_is_there}
 use Rattle.holders.proofs.holder.Holder.hold_page.Goals as goal

@@ -1,5 +1,5 @@
-use Rattle.std.proofs.Common.{◌≡◌, sym, ap, ◌∙◌}
-use Rattle.holders.specs.Judge.{needed, form_of}
+use Rattle.std.proofs.Common.{sym, ◌∙◌}
+use Rattle.holders.specs.Judge.{form_of}
 use Rattle.holders.specs.Left.{present_left}
 use Rattle.holders.proofs.Lengths.{has_values, length_given, length_spread}
 use Rattle.holders.proofs.holder.Holder.unused.Goals as goal

@@ -1,4 +1,4 @@
-use Rattle.std.proofs.Common.{◌≡◌, ℕ, List, [], sym, ap, ◌∙◌}
+use Rattle.std.proofs.Common.{◌≡◌, [], sym, ap, ◌∙◌}
 use Rattle.pages.specs.Delivered.{first, others}
 use Rattle.holders.specs.Judge.{form_of}
 use Rattle.holders.specs.Cursors.{to_give}

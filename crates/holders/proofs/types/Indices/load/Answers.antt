@@ -1,4 +1,4 @@
-use Rattle.std.proofs.Common.{◌≡◌, ℕ, ◌≤◌, List, Ok, Err, sym, ap, ◌∙◌, subst, rules}
+use Rattle.std.proofs.Common.{◌≡◌, ◌≤◌, Ok, Err, sym, ap, ◌∙◌, subst, rules}
 use Rattle.hybrid_rle.specs.Borrowed.{stretch}
 use Rattle.hybrid_rle.specs.Runs.{One, run, packed, repeated}
 use Rattle.hybrid_rle.proofs.Streams.{run_shorter, run_at_small}

@@ -1,4 +1,4 @@
-use Rattle.std.proofs.Common.{◌≡◌, ℕ, ◌<◌, true, length, is_some, sym, ap, ◌∙◌, subst, arith}
+use Rattle.std.proofs.Common.{◌≡◌, ◌<◌, true, length, is_some, sym, ap, ◌∙◌, subst, arith}
 use Rattle.holders.specs.Left.{current_numbers}
 use Rattle.holders.specs.Entries.{current_count}
 use Rattle.hybrid_rle.proofs.Places.{small_width}

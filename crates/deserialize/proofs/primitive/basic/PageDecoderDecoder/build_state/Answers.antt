@@ -1,4 +1,4 @@
-use Rattle.std.proofs.Common.{◌≡◌, map, ap, ◌∙◌}
+use Rattle.std.proofs.Common.{map, ap, ◌∙◌}
 use Rattle.pages.specs.Meaning.{meaning}
 use Rattle.holders.specs.Judge.{form_of}
 use Rattle.holders.specs.Columns.{row_of, column_of}
