@@ -1,4 +1,4 @@
-ghost use Rattle.std.specs.Prelude.{◌≡◌, ℕ, ◌+◌, ◌*◌, ◌/◌, ◌%◌, ◌<◌, ◌≤◌, false, ltb, [], ◌∷◌, ◌++◌, length, replicate, is_ok, if◌then◌else◌, Some, None, nat_le, nat_lt, slice_index};
+ghost use Rattle.std.specs.Prelude.{◌≡◌, ℕ, ◌+◌, ◌*◌, ◌/◌, ◌%◌, ◌<◌, ◌≤◌, false, [], ◌∷◌, ◌++◌, length, replicate, is_ok, if◌then◌else◌, Some, None, nat_le, nat_lt, slice_index};
 ghost use Rattle.bitmap.specs.Refusals.{sliced};
 ghost use Rattle.bitmap.specs.Bitmaps.{bits, bit_at, Tidy, capacity, part};
 
@@ -48,7 +48,7 @@ impl<'a> MutableBitmap<'a> {
 
     // Bit i, or None where there are not that many.
     pub fn get(&self, i: usize) -> Option<bool>
-        ensures { result ≡ (if ltb i self.now.used then Some (bit_at self.now.buffer.now i) else None) }
+        ensures { result ≡ (if nat_lt i self.now.used then Some (bit_at self.now.buffer.now i) else None) }
     {
         if i < self.used {
             let b: &[u8] = self.buffer;
