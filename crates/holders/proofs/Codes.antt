@@ -7,7 +7,7 @@ use Rattle.hybrid_rle.specs.declared.header.Broken.{Broken}
 use Rattle.hybrid_rle.proofs.Streams.{Counts, counts_by}
 use Rattle.faults.specs.Faults.{then_do}
 use Rattle.faults.specs.declared.types.Cause.{Cause}
-use Rattle.faults.specs.declared.types.Cause.TheVariants.{Values as no-values, Index, NoDictionary}
+use Rattle.faults.specs.declared.types.Cause.TheVariants.{Values as no_values, Index, NoDictionary}
 use Rattle.holders.specs.Judge.{some_then, put, or_else, no_fault, width_of, indices, chosen, values, entries, parts}
 use Rattle.holders.specs.Left.{ok_some, dict_entries, values_left}
 use Rattle.holders.specs.Shapes.{sure}
@@ -51,7 +51,7 @@ values_coded f (Some es) n bs h = refl
 values_coded f None n bs h = absurd (grind arith)
 
 abbrev as_numbers : Result (List (List ℕ)) Broken → Result (List ℕ) Cause
-as_numbers r = then_do (no_fault no-values r) (λ xss. Ok (flat_map (λ xs. xs) xss))
+as_numbers r = then_do (no_fault no_values r) (λ xss. Ok (flat_map (λ xs. xs) xss))
 
 abbrev as_left : Option (List (List ℕ)) → Result (List (List ℕ)) Broken → ℕ → Option (List (List ℕ))
 as_left eo r n = some_then eo (λ es. some_then (cond true (some_then (ok_some r) (λ xss. Some ([] ++ flat_map (λ xs. xs) xss))) None) (λ is. cond (eqb (length is) n) (chosen es is) None))
@@ -71,7 +71,7 @@ good (Some es) (Ok xss) k n h e c b =
 good (Some es) (Err x) k n h e c b = absurd (grind arith)
 good None r k n h e c b = absurd (grind arith)
 
-bad : (eo : Option (List (List ℕ))) (r : Result (List (List ℕ)) Broken) (k : ℕ) → is_some eo ≡ true → Has k eo → Ok tt ≡ no_fault no-values (sound r) → below k r ≡ false → Err Index ≡ sure (coded_by eo (as_numbers r))
+bad : (eo : Option (List (List ℕ))) (r : Result (List (List ℕ)) Broken) (k : ℕ) → is_some eo ≡ true → Has k eo → Ok tt ≡ no_fault no_values (sound r) → below k r ≡ false → Err Index ≡ sure (coded_by eo (as_numbers r))
 bad (Some es) (Ok xss) k h e s b = sure_none (chosen es (flat_map (λ xs. xs) xss)) (chosen_some es (flat_map (λ xs. xs) xss) ∙ ap (λ m. all_below m (flat_map (λ xs. xs) xss)) e ∙ b)
 bad (Some es) (Err x) k h e s b = absurd (grind arith)
 bad None r k h e s b = absurd (grind arith)
@@ -89,5 +89,5 @@ module _ (f : Form) (d : Dict) (n w : ℕ) (bytes : List ℕ) (rest : Bor (List 
   pub coded_good : w ≤ 32 → n ≤ 1048576 → below d.entries (runs w (2 ^ 32 - 1) n rest.now) ≡ true → Ok (values_left f n (Coded d (record { w = w; current = Nothing; rest = rest; left = n }))) ≡ sure (values f true (dict_entries f d) n bytes)
   coded_good l m b = let t : leb w 32 ≡ true = le-leb w 32 l in let u : leb n 1048576 ≡ true = le-leb n 1048576 m in rw (t, u) (good (dict_entries f d) (runs w (2 ^ 32 - 1) n rest.now) d.entries n fine (has_dict f d) (counts_by w (2 ^ 32 - 1) n (length rest.now) rest.now) b ∙ ap sure (sym all_of))
 
-  pub coded_bad : Ok tt ≡ no_fault no-values (sound (runs w (2 ^ 32 - 1) n rest.now)) → below d.entries (runs w (2 ^ 32 - 1) n rest.now) ≡ false → Err Index ≡ sure (values f true (dict_entries f d) n bytes)
+  pub coded_bad : Ok tt ≡ no_fault no_values (sound (runs w (2 ^ 32 - 1) n rest.now)) → below d.entries (runs w (2 ^ 32 - 1) n rest.now) ≡ false → Err Index ≡ sure (values f true (dict_entries f d) n bytes)
   coded_bad s b = bad (dict_entries f d) (runs w (2 ^ 32 - 1) n rest.now) d.entries fine (has_dict f d) s b ∙ ap sure (sym all_of)

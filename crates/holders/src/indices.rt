@@ -1,5 +1,5 @@
 ghost use Rattle.std.specs.Prelude.{◌≡◌, ◌+◌, ◌-◌, ◌*◌, ◌^◌, ◌<◌, ◌≤◌, true, length, take};
-ghost use Rattle.hybrid_rle.specs.Runs.{fields, runs, numbers, count as run-count, all_below, allowed};
+ghost use Rattle.hybrid_rle.specs.Runs.{fields, runs, numbers, count as run_count, all_below, allowed};
 ghost use Rattle.hybrid_rle.specs.Borrowed.{stretch};
 ghost use Rattle.holders.specs.Counts.{below, bits_in, bits_of};
 
@@ -23,7 +23,7 @@ fn packed_below(bytes: &[u8], w: u8, n: usize, entries: u32) -> bool
 
 // How many numbers a run has.
 pub(crate) fn run_length(run: Run<'_>) -> usize
-    ensures count { result ≡ run-count (stretch run.entry) }
+    ensures count { result ≡ run_count (stretch run.entry) }
     ensures small { allowed (2 ^ 32 - 1) (stretch run.entry) ≡ true }
 {
     match run {

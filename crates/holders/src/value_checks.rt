@@ -2,7 +2,7 @@ ghost use Rattle.std.specs.Prelude.{◌≡◌, ◌≤◌, true, is_some};
 ghost use Rattle.holders.specs.Judge as judge;
 ghost use Rattle.holders.specs.Left.{held_entries, dict_fine, dict_entries};
 ghost use Rattle.holders.specs.Shapes.{left_in, sure, headed, width_in};
-ghost use Rattle.faults.specs.declared.types.Cause.TheVariants.{Values as values-cause};
+ghost use Rattle.faults.specs.declared.types.Cause.TheVariants.{Values as values_cause};
 
 use crate::arrays::arrays_fit;
 use crate::checks::{bits_fit, fixed_fits};
@@ -37,7 +37,7 @@ pub(crate) fn plain_fits(form: Form, optional: bool, n: usize, bytes: &[u8]) -> 
 
 fn plain<'a>(form: Form, optional: bool, n: usize, bytes: &'a [u8]) -> Result<Values<'a>, Cause>
     requires { n ≤ 1048576 }
-    ensures { left_in form n result ≡ sure (judge.or_else values-cause (judge.plain form optional n bytes.now)) }
+    ensures { left_in form n result ≡ sure (judge.or_else values_cause (judge.plain form optional n bytes.now)) }
 {
     if plain_fits(form, optional, n, bytes) {
         Ok(Values::Plain { bytes, at: 0 })

@@ -2,7 +2,7 @@ ghost use Rattle.std.specs.Prelude.{◌≡◌, [], map, None, ◌==◌};
 ghost use Rattle.values.specs.Little.{little};
 ghost use Rattle.holders.specs.Judge.{form_of};
 ghost use Rattle.holders.specs.Columns.{column_of};
-ghost use Rattle.holders.specs.Convert.{truth, boolean as boolean-column};
+ghost use Rattle.holders.specs.Convert.{truth, boolean as boolean_column};
 ghost use Rattle.holders.specs.Cursors.{to_give};
 ghost use Rattle.holders.specs.Holding.{held, unused_as};
 
@@ -86,7 +86,7 @@ impl<'a> OverPage<'a> for BooleanValues<'a> {
 pub type Boolean<'a> = PageDecoder<'a, 1, BooleanValues<'a>>;
 
 pub fn boolean<'a>(optional: bool) -> Boolean<'a>
-    ensures column { column_of (form_of 1) truth result.holder.optional ≡ boolean-column optional }
+    ensures column { column_of (form_of 1) truth result.holder.optional ≡ boolean_column optional }
     ensures unused { unused_as truth result.holder ≡ [] }
     ensures held { held result.holder ≡ None }
 {

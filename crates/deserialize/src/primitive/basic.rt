@@ -2,7 +2,7 @@ ghost use Rattle.std.specs.Prelude.{◌≡◌, false, cond, List, [], ◌++◌, 
 ghost use Rattle.values.specs.Little.{signed, unsigned};
 ghost use Rattle.holders.specs.Judge.{form_of};
 ghost use Rattle.holders.specs.Columns.{column_of};
-ghost use Rattle.holders.specs.Convert.{keep_32, unsigned_32, keep_64, unsigned_64, int32_keep, int32_as_wide, int32_as_unsigned, int64_keep, float as float-column, double as double-column};
+ghost use Rattle.holders.specs.Convert.{keep_32, unsigned_32, keep_64, unsigned_64, int32_keep, int32_as_wide, int32_as_unsigned, int64_keep, float as float_column, double as double_column};
 ghost use Rattle.holders.specs.Holding.{held, unused_as};
 
 use crate::primitive::decoder::PageDecoder;
@@ -166,7 +166,7 @@ pub fn int64<'a>(optional: bool) -> Int64<'a>
 pub type Float<'a> = PageDecoder<'a, 4, Converted<'a, u32, Bits>>;
 
 pub fn float<'a>(optional: bool) -> Float<'a>
-    ensures column { column_of (form_of 4) unsigned_32 result.holder.optional ≡ float-column optional }
+    ensures column { column_of (form_of 4) unsigned_32 result.holder.optional ≡ float_column optional }
     ensures unused { unused_as unsigned_32 result.holder ≡ [] }
     ensures held { held result.holder ≡ None }
 {
@@ -177,7 +177,7 @@ pub fn float<'a>(optional: bool) -> Float<'a>
 pub type Double<'a> = PageDecoder<'a, 8, Converted<'a, u64, Bits>>;
 
 pub fn double<'a>(optional: bool) -> Double<'a>
-    ensures column { column_of (form_of 8) unsigned_64 result.holder.optional ≡ double-column optional }
+    ensures column { column_of (form_of 8) unsigned_64 result.holder.optional ≡ double_column optional }
     ensures unused { unused_as unsigned_64 result.holder ≡ [] }
     ensures held { held result.holder ≡ None }
 {

@@ -12,9 +12,9 @@ module _ (bs : List ℕ) (e n : ℕ) where
       let short : ltb (length bs) 9 ≡ false = le-ltb (length bs) 9 long in
       rw (first, short, ise, isn, between_to_end bs 9 (length bs) (omega arith))
 
-  data-at : get_or bs 0 0 ≡ 80 → 11 ≤ length bs → e ≡ le32 bs 1 → n ≡ le32 bs 7
+  data_at : get_or bs 0 0 ≡ 80 → 11 ≤ length bs → e ≡ le32 bs 1 → n ≡ le32 bs 7
       → data_page_of e (get_or bs 5 0) (get_or bs 6 0) n (take (length bs - 11) (drop 11 bs)) ≡ command bs
-  data-at first long ise isn =
+  data_at first long ise isn =
       let short : ltb (length bs) 11 ≡ false = le-ltb (length bs) 11 long in
       rw (first, short, ise, isn, between_to_end bs 11 (length bs) (omega arith))
 
@@ -23,7 +23,7 @@ returns-in-80 c =
     let f : get_or c.args.bytes.now 0 0 ≡ 80 = search rules in
     let l : 11 ≤ length c.args.bytes.now = omega (arith, ltb-false) in
     c.data_body.ensures
-    ∙ data-at c.args.bytes.now _ _ f l c.from_le_bytes-rows.ensures c.from_le_bytes-n.ensures
+    ∙ data_at c.args.bytes.now _ _ f l c.from_le_bytes-rows.ensures c.from_le_bytes-n.ensures
 
 pub returns-in-68 : goal.returns-in-68
 returns-in-68 c =

@@ -13,8 +13,8 @@ sliced_ok held room used offset n h k = rw (le-leb (offset + n) held h, le-leb (
 sum_is : (n gap : ℕ) → gap < n → gap + 8 * ((n - gap) / 8) + (n - gap) % 8 ≡ n
 sum_is n gap g = omega arith
 
-total-is : (u n gap u₂ w t : ℕ) → gap < n → u₂ ≡ u + gap → w ≡ u₂ + 8 * ((n - gap) / 8) → t ≡ w + (n - gap) % 8 → t ≡ u + n
-total-is u n gap u₂ w t g e k f = omega arith
+total_is : (u n gap u₂ w t : ℕ) → gap < n → u₂ ≡ u + gap → w ≡ u₂ + 8 * ((n - gap) / 8) → t ≡ w + (n - gap) % 8 → t ≡ u + n
+total_is u n gap u₂ w t g e k f = omega arith
 
 three : (bs : List ℕ) (xs : List Bool) (o a b d n : ℕ) → a + b + d ≡ n → ((xs ++ part o a bs) ++ part (o + a) b bs) ++ part (o + a + b) d bs ≡ xs ++ part o n bs
 three bs xs o a b d n e =
@@ -37,7 +37,7 @@ returns c =
     let e2 = c.extend_from_slice_bits-2.ensures in let ew = c.bytes_from.ensures in let e3 = c.extend_from_slice_bits-3.ensures in
     record {
       answer = sym (sliced_ok held cap s.used o n src all);
-      count = total-is s.used n gap _ _ _ over e2.count ew.count e3.count;
+      count = total_is s.used n gap _ _ _ over e2.count ew.count e3.count;
       items = e3.items ∙ ap (λ t. t ++ part (o + gap + 8 * whole) ((n - gap) % 8) bs) (ew.items ∙ ap (λ t. t ++ part (o + gap) (8 * whole) bs) e2.items) ∙ three bs (bits s.used s.buffer.now) o gap (8 * whole) ((n - gap) % 8) n (sum_is n gap over);
       room = e3.room ∙ ew.room ∙ e2.room;
       home = e3.home ∙ ew.home ∙ e2.home;
