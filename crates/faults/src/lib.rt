@@ -3,4 +3,5 @@
 
 pub mod fault;
 pub mod kind;
+pub mod texts;
 pub mod types;

@@ -1,5 +1,5 @@
 // The kinds of columns that are read, by Parquet's physical types.
-#[derive(Clone, Copy, Debug, PartialEq)]
+#[derive(Clone, Copy, Debug, PartialEq, Eq, Hash)]
 pub enum Kind {
     Boolean,
     Int32,
@@ -10,7 +10,7 @@ pub enum Kind {
 }
 
 // Where a fault is found.
-#[derive(Clone, Copy, Debug, PartialEq)]
+#[derive(Clone, Copy, Debug, PartialEq, Eq, Hash)]
 pub enum Layer {
     Name,
     Open,
@@ -23,7 +23,7 @@ pub enum Layer {
 }
 
 // What a fault is: a source's own number is carried inside `Source`.
-#[derive(Clone, Copy, Debug, PartialEq)]
+#[derive(Clone, Copy, Debug, PartialEq, Eq, Hash)]
 pub enum Cause {
     Name,
     Open,
@@ -42,7 +42,7 @@ pub enum Cause {
 }
 
 // A fault with the number of deliveries so far, the faulty one included; 0 outside `next`.
-#[derive(Clone, Copy, Debug, PartialEq)]
+#[derive(Clone, Copy, Debug, PartialEq, Eq, Hash)]
 pub struct Fault {
     pub cause: Cause,
     pub count: u64,
