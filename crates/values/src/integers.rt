@@ -1,21 +1,7 @@
 ghost use Rattle.std.specs.Prelude.{pos};
 ghost use Rattle.values.specs.Little.{signed, unsigned};
-ghost use Rattle.values.specs.Values.{a_number, number};
-ghost use Rattle.std.proofs.Common.{rules};
 
-use super::{Element, Meant, Valued};
-
-impl Meant for i32 {
-    ghost meant = { a_number };
-}
-
-impl Valued for i32 {
-    ghost value = { number };
-
-    fn weigh(self) -> usize {
-        0
-    }
-}
+use super::Element;
 
 impl Element for i32 {
     ghost int = { λ n. n };
@@ -23,10 +9,6 @@ impl Element for i32 {
     ghost width = { 4 };
 
     ghost reading = { signed 4 };
-
-    ghost meant = { Prim.search rules };
-
-    ghost value = { Prim.search rules };
 
     fn zero() -> i32 {
         0
@@ -37,22 +19,7 @@ impl Element for i32 {
     }
 
     fn read(bytes: &[u8]) -> i32 {
-        match bytes {
-            [a, b, c, d, ..] => i32::from_le_bytes([*a, *b, *c, *d]),
-            _ => 0,
-        }
-    }
-}
-
-impl Meant for i64 {
-    ghost meant = { a_number };
-}
-
-impl Valued for i64 {
-    ghost value = { number };
-
-    fn weigh(self) -> usize {
-        0
+        bytes.first_chunk().map_or(0, |b| i32::from_le_bytes(*b))
     }
 }
 
@@ -63,10 +30,6 @@ impl Element for i64 {
 
     ghost reading = { signed 8 };
 
-    ghost meant = { Prim.search rules };
-
-    ghost value = { Prim.search rules };
-
     fn zero() -> i64 {
         0
     }
@@ -76,22 +39,7 @@ impl Element for i64 {
     }
 
     fn read(bytes: &[u8]) -> i64 {
-        match bytes {
-            [a, b, c, d, e, f, g, h, ..] => i64::from_le_bytes([*a, *b, *c, *d, *e, *f, *g, *h]),
-            _ => 0,
-        }
-    }
-}
-
-impl Meant for u32 {
-    ghost meant = { λ n. a_number (pos n) };
-}
-
-impl Valued for u32 {
-    ghost value = { λ n. number (pos n) };
-
-    fn weigh(self) -> usize {
-        0
+        bytes.first_chunk().map_or(0, |b| i64::from_le_bytes(*b))
     }
 }
 
@@ -102,10 +50,6 @@ impl Element for u32 {
 
     ghost reading = { unsigned 4 };
 
-    ghost meant = { Prim.search rules };
-
-    ghost value = { Prim.search rules };
-
     fn zero() -> u32 {
         0
     }
@@ -115,22 +59,7 @@ impl Element for u32 {
     }
 
     fn read(bytes: &[u8]) -> u32 {
-        match bytes {
-            [a, b, c, d, ..] => u32::from_le_bytes([*a, *b, *c, *d]),
-            _ => 0,
-        }
-    }
-}
-
-impl Meant for u64 {
-    ghost meant = { λ n. a_number (pos n) };
-}
-
-impl Valued for u64 {
-    ghost value = { λ n. number (pos n) };
-
-    fn weigh(self) -> usize {
-        0
+        bytes.first_chunk().map_or(0, |b| u32::from_le_bytes(*b))
     }
 }
 
@@ -141,10 +70,6 @@ impl Element for u64 {
 
     ghost reading = { unsigned 8 };
 
-    ghost meant = { Prim.search rules };
-
-    ghost value = { Prim.search rules };
-
     fn zero() -> u64 {
         0
     }
@@ -154,9 +79,6 @@ impl Element for u64 {
     }
 
     fn read(bytes: &[u8]) -> u64 {
-        match bytes {
-            [a, b, c, d, e, f, g, h, ..] => u64::from_le_bytes([*a, *b, *c, *d, *e, *f, *g, *h]),
-            _ => 0,
-        }
+        bytes.first_chunk().map_or(0, |b| u64::from_le_bytes(*b))
     }
 }

@@ -1,7 +1,7 @@
 // What a column's rows hold, and the numbers of fixed width that a chunk can hold.
 #![tactic(auto)]
 
-ghost use Rattle.std.specs.Prelude.{◌≡◌, ℕ, ◌<◌, ◌≤◌, List, ℤ, pos};
+ghost use Rattle.std.specs.Prelude.{◌≡◌, ℕ, List, ℤ, pos};
 ghost use Rattle.values.specs.Values.{Seen, Value, a_number, number, weight};
 
 pub mod integers;
@@ -22,7 +22,7 @@ pub trait Valued: Sized {
 }
 
 // A number of fixed width: how wide it is, and how it is read from bytes, the lowest first.
-pub trait Element: Meant + Valued + Copy {
+pub trait Element: Copy {
     ghost int: { Self → ℤ };
 
     ghost width: { ℕ };
@@ -38,8 +38,16 @@ pub trait Element: Meant + Valued + Copy {
     // The number in the first bytes; 0 where there are too few.
     fn read(bytes: &[u8]) -> Self
         ensures { int result ≡ reading bytes.now };
+}
 
-    ghost meant: { (x : Self) → Self.Meant.meant x ≡ a_number (int x) };
+impl<T: Element> Meant for T {
+    ghost meant = { λ x. a_number (T.int x) };
+}
 
-    ghost value: { (x : Self) → Self.Valued.value x ≡ number (int x) };
+impl<T: Element> Valued for T {
+    ghost value = { λ x. number (T.int x) };
+
+    fn weigh(self) -> usize {
+        0
+    }
 }
