@@ -1,24 +1,10 @@
 -- What heads deliver, one after the other.
-use Rattle.std.proofs.Common.{◌≡◌, ℕ, ◌+◌, ◌-◌, ◌<◌, true, false, ltb, List, [], ◌∷◌, ◌++◌, length, get_or, take, drop, Some, sym, refl, ap, ◌∙◌, append_assoc, arith, length-append}
-use lib.Seq.{take-length}
+use Rattle.std.proofs.Common.{◌≡◌, ℕ, ◌+◌, true, false, ltb, List, [], ◌∷◌, ◌++◌, length, Some, sym, refl, ap, ◌∙◌, append_assoc, arith, length-append}
 use Rattle.std.proofs.lemmas.Bool.{le-ltb}
 use Rattle.std.proofs.lemmas.List.{take_at, drop_at}
 use Rattle.pages.specs.Delivered.{Delivered, page, dict, fault}
 use Rattle.pages.specs.Heads.{part_of, headed, listed}
 use Rattle.pages.specs.Laid.{Page, AllPages, body_of, head_at, bodies, heads_from, DeliversWhatWasLaid}
-use Rattle.pages.specs.declared.heads.Head.{Head}
-
--- with no heads there is no delivery
-pub none_left : (buffer : List ℕ) (hs : List Head) → length hs ≡ 0 → listed buffer hs ≡ []
-none_left buffer [] e = refl
-none_left buffer (h ∷ hs) e = absurd (omega arith)
-
--- the first delivery is the first head's, and the others are those of the heads after it
-pub listed_step : (buffer : List ℕ) (hs : List Head) (d : Head) → 0 < length hs
-    → listed buffer hs ≡ headed buffer (get_or hs 0 d) ∷ listed buffer (take (length hs - 1) (drop 1 hs))
-listed_step buffer [] d l = absurd (omega arith)
-listed_step buffer (h ∷ hs) d l =
-    let n : length (h ∷ hs) - 1 ≡ length hs = omega arith in rw (n, take-length hs)
 
 -- a body comes out of the bytes it lies between
 part_back : (before body after : List ℕ) → part_of (before ++ (body ++ after)) (length before) (length body) ≡ Some body

@@ -1,8 +1,16 @@
 -- The deliveries of a directory: one for each of its heads.
-use Rattle.std.specs.Prelude.{ℕ, ◌+◌, Bool, cond, List, map, length, take, drop, Some, None, Option, ◌==◌, nat_lt}
+use Rattle.std.specs.Prelude.{ℕ, ◌+◌, Bool, cond, List, map, length, take, drop, Some, None, Ok, Err, Option, Result, ◌==◌, nat_lt}
 use Rattle.pages.specs.Delivered.{Delivered, page, dict, fault}
 use Rattle.pages.specs.Commands.{flagged}
+use Rattle.pages.specs.declared.fault.SourceFault.{SourceFault}
+use Rattle.pages.specs.declared.fault.SourceFault.TheVariants as flaw
 use Rattle.pages.specs.declared.heads.Head.{Head}
+use Rattle.pages.specs.declared.heads.Sort.{Sort}
+use Rattle.pages.specs.declared.heads.Sort.TheVariants.{Dictionary, Data}
+
+-- the sorts by their numbers: 0 a dictionary page, 1 a data page
+abbrev pub sorted : ℕ → Result Sort SourceFault
+sorted n = cond (n == 0) (Ok Dictionary) (cond (n == 1) (Ok Data) (Err flaw.Sort))
 
 -- the n bytes of a buffer from a place on, if it has them all
 abbrev pub part_of : List ℕ → ℕ → ℕ → Option (List ℕ)

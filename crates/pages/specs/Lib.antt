@@ -1,4 +1,5 @@
 pub mod Delivered
+pub mod Flaws
 pub mod Meaning
 pub mod Commands
 pub mod Heads

@@ -5,9 +5,10 @@ ghost use Rattle.pages.specs.Held.{in_directory};
 ghost use Rattle.pages.specs.Laid.{DeliversWhatWasLaid, HeadCasesHold};
 ghost use Rattle.pages.specs.Meaning.{meaning};
 
+use crate::fault::SourceFault;
 use crate::flags::flag_of;
-use crate::heads::Head;
-use crate::page::{DataPage, Delivery, DictPage};
+use crate::heads::{Head, Sort};
+use crate::page::{DataPage, Delivery, DictPage, Page};
 use crate::pages::Pages;
 
 // The n bytes of a buffer from a place on, if it has them all.
@@ -15,40 +16,26 @@ fn part(buffer: &[u8], place: u32, n: u32) -> Option<&[u8]>
     ensures { option_map (λ x. x.now) result ≡ part_of buffer.now place n }
 {
     let from = place as usize;
-    let to = from + n as usize;
-    if buffer.len() < to {
-        None
-    } else {
-        Some(&buffer[from..to])
-    }
+    buffer.get(from..from + n as usize)
 }
 
-// What a head delivers from a buffer.
+// What a head delivers from a buffer: its sort is looked at first, then its part, then the flag of a data page.
 fn delivery<'a>(buffer: &'a [u8], head: Head) -> Delivery<'a>
     ensures { meaning result ≡ headed buffer.now head }
 {
-    match (
-        head.sort,
-        part(buffer, head.place, head.length),
-        flag_of(head.flag),
-    ) {
-        (0 | 1, None, _) => Delivery::Fault(5),
-        (0, Some(body), _) => {
-            Delivery::Dict(DictPage {
-                entries: head.count,
-                body,
-            })
-        }
-        (1, Some(body), Some(optional)) => {
-            Delivery::Data(DataPage {
-                rows: head.count,
-                encoding: head.encoding,
-                optional,
-                body,
-            })
-        }
-        (1, Some(_), None) => Delivery::Fault(3),
-        _ => Delivery::Fault(4),
+    let sort = Sort::try_from(head.sort)?;
+    let body = part(buffer, head.place, head.length).ok_or(SourceFault::Outside)?;
+    match sort {
+        Sort::Dictionary => Ok(Page::Dict(DictPage {
+            entries: head.count,
+            body,
+        })),
+        Sort::Data => Ok(Page::Data(DataPage {
+            rows: head.count,
+            encoding: head.encoding,
+            optional: flag_of(head.flag).ok_or(SourceFault::Flag)?,
+            body,
+        })),
     }
 }
 
@@ -80,12 +67,8 @@ impl<'a> Pages<'a> for Directory<'a> {
     ghost deliveries = { in_directory };
 
     fn next(&mut self) -> Option<Delivery<'a>> {
-        match self.heads {
-            [] => None,
-            [head, rest @ ..] => {
-                self.heads = rest;
-                Some(delivery(self.buffer, *head))
-            }
-        }
+        let (head, rest) = self.heads.split_first()?;
+        self.heads = rest;
+        Some(delivery(self.buffer, *head))
     }
 }

@@ -1,7 +1,7 @@
 ghost use Rattle.std.specs.Prelude.{◌≡◌};
 ghost use Rattle.pages.specs.Commands.{flagged};
 
-// a flag's meaning, if it has one
+// A flag's meaning, if it has one. It is no TryFrom, since both types are the library's.
 pub fn flag_of(b: u8) -> Option<bool>
     ensures { result ≡ flagged b }
 {

@@ -2,6 +2,7 @@
 #![tactic(auto)]
 
 pub mod directory;
+pub mod fault;
 pub mod flags;
 pub mod heads;
 pub mod page;

@@ -1,3 +1,5 @@
+use crate::fault::SourceFault;
+
 // A data page: rows, their encoding, whether a row may be null, and the body.
 #[derive(Clone, Copy)]
 pub struct DataPage<'a> {
@@ -14,10 +16,12 @@ pub struct DictPage<'a> {
     pub body: &'a [u8],
 }
 
-// One delivery of a source: a page, or the number of the source's own fault.
+// A page of either sort.
 #[derive(Clone, Copy)]
-pub enum Delivery<'a> {
+pub enum Page<'a> {
     Data(DataPage<'a>),
     Dict(DictPage<'a>),
-    Fault(u8),
 }
+
+// One delivery of a source: a page, or the source's own fault.
+pub type Delivery<'a> = Result<Page<'a>, SourceFault>;

@@ -1,64 +1,51 @@
 ghost use Rattle.std.specs.Prelude.{◌≡◌, ◌<◌, length};
-ghost use Rattle.std.specs.Option.{option_map};
-ghost use Rattle.pages.specs.Commands.{parted, dictionary_page_of, data_page_of, command, streamed};
+ghost use Rattle.pages.specs.Commands.{dictionary_page_of, data_page_of, command, streamed};
 ghost use Rattle.pages.specs.Cases.{CasesHold};
 ghost use Rattle.pages.specs.Written.{DeliversWhatWasWritten, CutShortIs2};
 ghost use Rattle.pages.specs.Whole.{WholeThenOneFault};
 ghost use Rattle.pages.specs.Held.{in_stream};
 ghost use Rattle.pages.specs.Meaning.{taken};
 
+use crate::fault::SourceFault;
 use crate::flags::flag_of;
-use crate::page::{DataPage, Delivery, DictPage};
+use crate::page::{DataPage, Delivery, DictPage, Page};
 use crate::pages::Pages;
 
-// the first n bytes and those after them, if there are n
-fn part(bytes: &[u8], n: u32) -> Option<(&[u8], &[u8])>
-    ensures { option_map (λ p. (p.0.now, p.1.now)) result ≡ parted bytes.now n }
-{
-    let n = n as usize;
-    if bytes.len() < n {
-        None
-    } else {
-        Some(bytes.split_at(n))
-    }
-}
-
-fn dict_body<'a>(entries: u32, n: u32, bytes: &'a [u8]) -> (Delivery<'a>, &'a [u8])
+// A dictionary page whose body is the first n bytes, and the bytes after it.
+fn dict_body<'a>(entries: u32, n: u32, bytes: &'a [u8]) -> Result<(Page<'a>, &'a [u8]), SourceFault>
     ensures { taken result ≡ dictionary_page_of entries n bytes.now }
 {
-    match part(bytes, n) {
-        None => (Delivery::Fault(2), &[]),
-        Some((body, after)) => (Delivery::Dict(DictPage { entries, body }), after),
-    }
+    let (body, after) = bytes
+        .split_at_checked(n as usize)
+        .ok_or(SourceFault::Short)?;
+    Ok((Page::Dict(DictPage { entries, body }), after))
 }
 
+// A data page whose body is the first n bytes, and the bytes after it. That the body is there is looked at before the flag.
 fn data_body<'a>(
     rows: u32,
     encoding: u8,
     flag: u8,
     n: u32,
     bytes: &'a [u8],
-) -> (Delivery<'a>, &'a [u8])
+) -> Result<(Page<'a>, &'a [u8]), SourceFault>
     ensures { taken result ≡ data_page_of rows encoding flag n bytes.now }
 {
-    match (part(bytes, n), flag_of(flag)) {
-        (None, _) => (Delivery::Fault(2), &[]),
-        (Some(_), None) => (Delivery::Fault(3), &[]),
-        (Some((body, after)), Some(optional)) => {
-            (
-                Delivery::Data(DataPage {
-                    rows,
-                    encoding,
-                    optional,
-                    body,
-                }),
-                after,
-            )
-        }
-    }
+    let (body, rest) = bytes
+        .split_at_checked(n as usize)
+        .ok_or(SourceFault::Short)?;
+    let optional = flag_of(flag).ok_or(SourceFault::Flag)?;
+    let page = DataPage {
+        rows,
+        encoding,
+        optional,
+        body,
+    };
+    Ok((Page::Data(page), rest))
 }
 
-fn first_command<'a>(bytes: &'a [u8]) -> (Delivery<'a>, &'a [u8])
+// The page of the first command, and the bytes after it.
+fn first_command<'a>(bytes: &'a [u8]) -> Result<(Page<'a>, &'a [u8]), SourceFault>
     requires { 0 < length bytes.now }
     ensures { taken result ≡ command bytes.now }
 {
@@ -86,12 +73,12 @@ fn first_command<'a>(bytes: &'a [u8]) -> (Delivery<'a>, &'a [u8])
             let n = u32::from_le_bytes([*l0, *l1, *l2, *l3]);
             data_body(rows, *encoding, *flag, n, rest)
         }
-        [0x44 | 0x50, ..] => (Delivery::Fault(2), &[]),
-        _ => (Delivery::Fault(1), &[]),
+        [0x44 | 0x50, ..] => Err(SourceFault::Short),
+        _ => Err(SourceFault::Command),
     }
 }
 
-// a source that reads commands from a slice
+// A source that reads commands from a slice.
 #[derive(Drop)]
 pub struct Stream<'a> {
     rest: &'a [u8],
@@ -112,12 +99,20 @@ impl<'a> Stream<'a> {
 impl<'a> Pages<'a> for Stream<'a> {
     ghost deliveries = { in_stream };
 
+    // After a fault nothing is left.
     fn next(&mut self) -> Option<Delivery<'a>> {
         if self.rest.is_empty() {
             return None;
         }
-        let (d, rest) = first_command(self.rest);
-        self.rest = rest;
-        Some(d)
+        match first_command(self.rest) {
+            Ok((page, rest)) => {
+                self.rest = rest;
+                Some(Ok(page))
+            }
+            Err(fault) => {
+                self.rest = &[];
+                Some(Err(fault))
+            }
+        }
     }
 }

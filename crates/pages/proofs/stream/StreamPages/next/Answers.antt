@@ -1,14 +1,8 @@
-use Rattle.std.proofs.Common.{◌<◌, length, Some, ap, rules}
-use Rattle.pages.specs.Commands.{Taken, streamed}
+use Rattle.std.proofs.Common.{◌<◌, length, rules}
 use Rattle.pages.proofs.Streams.{streamed_step}
 use Rattle.pages.proofs.stream.StreamPages.next.Goals as goal
 
-pub returns : goal.returns
-returns c =
+pub returns-in-Ok-clause-leaves : goal.returns-in-Ok-clause-leaves
+returns-in-Ok-clause-leaves c =
     let more : 0 < length c.args.self.now.rest.now = search rules in
-    let s = streamed_step c.args.self.now.rest.now more in
-    let e = c.first_command.ensures in
-    record {
-      gives = rw s (ap (λ (t : Taken). Some t.what) e);
-      leaves = rw s (ap (λ (t : Taken). streamed t.left) e);
-    }
+    rw (streamed_step c.args.self.now.rest.now more) (search rules)
