@@ -11,7 +11,7 @@ use crate::types::{Dict, Values};
 use crate::value_checks::entries_fit;
 use faults::types::Cause;
 use hybrid_rle::validity::OptionalPageValidity;
-use pages::page::{DataPage, Delivery, DictPage};
+use pages::page::{DataPage, Delivery, DictPage, Page};
 
 impl<'a, const F: u8> Holder<'a, F> {
     // No page and no dictionary.
@@ -95,10 +95,9 @@ impl<'a, const F: u8> Holder<'a, F> {
         ensures dict { held self.new ≡ held_after (judge (form_of F) self.old.optional (held self.old) (meaning d.entry)) (held self.old) }
         ensures flag { self.new.optional ≡ self.old.optional }
     {
-        match d {
-            Delivery::Data(p) => self.hold_page(p),
-            Delivery::Dict(p) => self.hold_dict(p),
-            Delivery::Fault(n) => Err(Cause::Source(n)),
+        match d? {
+            Page::Data(p) => self.hold_page(p),
+            Page::Dict(p) => self.hold_dict(p),
         }
     }
 }
