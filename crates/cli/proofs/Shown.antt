@@ -1,5 +1,5 @@
 -- The text of a row, from what a sink and its validity answer.
-use Rattle.std.proofs.Common.{◌≡◌, ℕ, zero, suc, ◌+◌, ◌<◌, ◌≤◌, Bool, true, false, cond, List, [], ◌∷◌, length, get_or, ℤ, IfOk, Some, None, Ok, Err, codes, Result, refl, ap, ◌∙◌, arith}
+use Rattle.std.proofs.Common.{◌≡◌, ℕ, zero, suc, ◌+◌, ◌<◌, ◌≤◌, Bool, true, false, cond, List, [], ◌∷◌, length, get_or, ℤ, IfOk, IfSome, Some, None, Ok, Err, codes, Option, Result, refl, ap, ◌∙◌, arith}
 use Rattle.std.specs.Fmt.{signed_decimal}
 use Rattle.values.specs.Values.{Value, number, flag, bytes, a_number, a_flag, seen_as, seen_at, weight, rows_in, bit_at}
 use Rattle.cli.specs.Layout.{text_of_value, text_of_flag, text_at, row_at_text}
@@ -52,3 +52,9 @@ shown_row (v ∷ vs) (b ∷ bs) (suc i) h = shown_row vs bs i (omega arith)
 pub made_as : {S E : Type 0} (f : S → List ℕ) (r : Result S E) (a b : List ℕ) → IfOk r (λ s. f s ≡ a) → a ≡ b → IfOk r (λ s. f s ≡ b)
 made_as f (Ok s) a b h e = h ∙ e
 made_as f (Err x) a b h e = tt
+
+-- what a value prints, where it is known
+pub printed_as : {S E : Type 0} (f : S → List ℕ) (r : Result S E) (o : Option (List ℕ)) (a b : List ℕ) → IfOk r (λ s. IfSome o (λ bs. f s ≡ bs)) → o ≡ Some a → a ≡ b → IfOk r (λ s. f s ≡ b)
+printed_as f (Ok s) (Some t) a b h e k = let z : t ≡ a = cc in h ∙ z ∙ k
+printed_as f (Ok s) None a b h e k = let n : ◌≡◌ {A = ℕ} 0 1 = cc in absurd (omega arith)
+printed_as f (Err x) o a b h e k = tt

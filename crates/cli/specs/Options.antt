@@ -1,5 +1,5 @@
 -- The options after the first words: --conversion and its word, --directory and a file of heads, --json.
-use Rattle.std.specs.Prelude.{ℕ, ◌+◌, true, false, cond, List, [], ◌∷◌, Some, None, Ok, Err, codes, Result}
+use Rattle.std.specs.Prelude.{ℕ, ◌+◌, true, false, cond, List, [], ◌∷◌, Some, None, Ok, Err, codes, Option, Result}
 use Rattle.std.specs.Str.{bytes_eq}
 use Rattle.faults.specs.declared.types.Kind.{Kind}
 use Rattle.faults.specs.declared.types.Kind.TheVariants as kind
@@ -8,8 +8,8 @@ use Rattle.cli.specs.declared.words.Mistake.{Mistake}
 use Rattle.cli.specs.declared.words.Mistake.TheVariants as wrong
 use Rattle.cli.specs.declared.options.Converts.{Converts}
 use Rattle.cli.specs.declared.options.Converts.TheVariants.{Keep, Widen, Unsigned}
-use Rattle.cli.specs.declared.options.Awaits.{Awaits}
-use Rattle.cli.specs.declared.options.Awaits.TheVariants as awaits
+use Rattle.cli.specs.declared.options.Awaited.{Awaited}
+use Rattle.cli.specs.declared.options.Awaited.TheVariants as awaits
 use Rattle.cli.specs.declared.options.Options.{Options}
 use Rattle.cli.specs.declared.options.Column.{Column}
 use Rattle.cli.specs.declared.options.Column.TheVariants as column
@@ -23,10 +23,10 @@ conversion_word text =
 
 -- no option yet: values are kept, the file is a page stream, chunks are printed as text
 abbrev pub none_yet : Options
-none_yet = record { awaits = awaits.Nothing; converts = Keep; heads = None; json = false }
+none_yet = record { awaits = None; converts = Keep; heads = None; json = false }
 
-abbrev pub awaiting : Awaits → Options → Options
-awaiting a o = record { awaits = a; converts = o.converts; heads = o.heads; json = o.json }
+abbrev pub awaiting : Awaited → Options → Options
+awaiting a o = record { awaits = Some a; converts = o.converts; heads = o.heads; json = o.json }
 
 -- a word where an option may stand
 abbrev pub after_option : Options → List ℕ → Result Options Mistake
@@ -37,19 +37,19 @@ after_option o word =
     (Err wrong.Option)))
 
 -- word number `at`: an option, or the word that the option before it awaits
-abbrev pub after_awaited : Awaits → Options → ℕ → List ℕ → Result Options Mistake
-after_awaited awaits.Nothing o at word = after_option o word
-after_awaited awaits.Conversion o at word = and_then (conversion_word word) (λ k. Ok (record { awaits = awaits.Nothing; converts = k; heads = o.heads; json = o.json }))
-after_awaited awaits.Heads o at word = Ok (record { awaits = awaits.Nothing; converts = o.converts; heads = Some at; json = o.json })
+abbrev pub after_awaited : Option Awaited → Options → ℕ → List ℕ → Result Options Mistake
+after_awaited None o at word = after_option o word
+after_awaited (Some awaits.Conversion) o at word = and_then (conversion_word word) (λ k. Ok (record { awaits = None; converts = k; heads = o.heads; json = o.json }))
+after_awaited (Some awaits.Heads) o at word = Ok (record { awaits = None; converts = o.converts; heads = Some at; json = o.json })
 
 abbrev pub after_word : Options → ℕ → List ℕ → Result Options Mistake
 after_word o at word = after_awaited o.awaits o at word
 
 -- an option whose word is missing is a mistake
-abbrev pub complete : Awaits → Options → Result Options Mistake
-complete awaits.Nothing o = Ok o
-complete awaits.Conversion o = Err wrong.Missing
-complete awaits.Heads o = Err wrong.Missing
+abbrev pub complete : Option Awaited → Options → Result Options Mistake
+complete None o = Ok o
+complete (Some awaits.Conversion) o = Err wrong.Missing
+complete (Some awaits.Heads) o = Err wrong.Missing
 
 abbrev pub ended : Options → Result Options Mistake
 ended o = complete o.awaits o

@@ -53,6 +53,18 @@ in_range (Some n) = cond (n == 0 || nat_lt 65536 n) None (Some n)
 abbrev pub chunk_size : List ℕ → Option ℕ
 chunk_size text = in_range (decimal text)
 
+-- the words for a mistake
+abbrev pub mistake_text : Mistake → List ℕ
+mistake_text wrong.Kind = codes "KIND is none of BOOLEAN, INT32, INT64, FLOAT, DOUBLE, BYTE_ARRAY"
+mistake_text wrong.Flag = codes "the third word is neither optional nor required"
+mistake_text wrong.Chunk = codes "CHUNK is no number from 1 to 65536"
+mistake_text wrong.Limit = codes "LIMIT is no number from 0 to 4294967295"
+mistake_text wrong.Option = codes "an option is none of --conversion, --directory, --json"
+mistake_text wrong.Conversion = codes "a conversion is none of keep, widen, unsigned"
+mistake_text wrong.Missing = codes "an option lacks its word"
+mistake_text wrong.NotConverted = codes "only INT32 is converted by widen or unsigned"
+mistake_text wrong.NotYet = codes "columns of this KIND are not read yet: INT32 is"
+
 -- the four words, or the first that is wrong
 abbrev pub understood : List ℕ → List ℕ → List ℕ → List ℕ → Result Wanted Mistake
 understood name flag chunk limit =

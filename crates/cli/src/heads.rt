@@ -1,35 +1,43 @@
-ghost use Rattle.std.specs.Prelude.{◌≡◌, ◌+◌, ◌≤◌, length, IfOk, vec_items};
-ghost use Rattle.pages.specs.Commands.{le32};
+ghost use Rattle.std.specs.Prelude.{◌≡◌, IfOk, vec_items};
 ghost use Rattle.std.specs.Option.{option_map};
 ghost use Rattle.cli.specs.HeadFile.{front_head, head_and_rest, heads_file};
 
 use pages::heads::Head;
 use std::alloc::{AllocError, Global};
 
-// The number in four bytes from a place on, the lowest first.
-fn number_at(bytes: &[u8], i: usize) -> u32
-    requires { i + 4 ≤ length bytes.now }
-    ensures { result ≡ le32 bytes.now i }
-{
-    u32::from_le_bytes([bytes[i], bytes[i + 1], bytes[i + 2], bytes[i + 3]])
-}
-
 // The head in the first 15 bytes, and the bytes after it, if there are so many.
 fn first_head<'a>(bytes: &'a [u8]) -> Option<(Head, &'a [u8])>
     ensures { option_map head_and_rest result ≡ front_head bytes.now }
 {
-    if bytes.len() < 15 {
+    let [
+        sort,
+        encoding,
+        flag,
+        c0,
+        c1,
+        c2,
+        c3,
+        p0,
+        p1,
+        p2,
+        p3,
+        l0,
+        l1,
+        l2,
+        l3,
+        rest @ ..,
+    ] = bytes
+    else {
         return None;
-    }
-    let head = Head {
-        sort: bytes[0],
-        encoding: bytes[1],
-        flag: bytes[2],
-        count: number_at(bytes, 3),
-        place: number_at(bytes, 7),
-        length: number_at(bytes, 11),
     };
-    let (_, rest) = bytes.split_at(15);
+    let head = Head {
+        sort: *sort,
+        encoding: *encoding,
+        flag: *flag,
+        count: u32::from_le_bytes([*c0, *c1, *c2, *c3]),
+        place: u32::from_le_bytes([*p0, *p1, *p2, *p3]),
+        length: u32::from_le_bytes([*l0, *l1, *l2, *l3]),
+    };
     Some((head, rest))
 }
 
@@ -43,8 +51,5 @@ pub fn heads_of(heap: Global, bytes: &[u8]) -> Result<Option<Vec<Head>>, AllocEr
         heads.push(head)?;
         rest = after;
     }
-    if !rest.is_empty() {
-        return Ok(None);
-    }
-    Ok(Some(heads))
+    Ok(rest.is_empty().then_some(heads))
 }

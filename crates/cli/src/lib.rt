@@ -2,7 +2,6 @@
 #![tactic(auto)]
 
 pub mod decimal;
-pub mod faulty;
 pub mod heads;
 pub mod layout;
 pub mod numbers;

@@ -1,36 +1,51 @@
 ghost use Rattle.std.specs.Prelude.{◌≡◌, map, string_bytes};
-ghost use Rattle.cli.specs.Options.{conversion_word, after_option, after_word, options_in, none_yet, ended, column_of};
+ghost use Rattle.cli.specs.Options.{conversion_word, after_option, after_word, options_in, ended, column_of};
 
 use crate::words::Mistake;
 use faults::types::Kind;
+use std::str::FromStr;
 
 // What becomes of INT32's values.
-#[derive(Clone, Copy)]
+#[derive(Clone, Copy, Debug, PartialEq, Eq, Hash)]
 pub enum Converts {
     Keep,
     Widen,
     Unsigned,
 }
 
+impl FromStr for Converts {
+    type Err = Mistake;
+
+    ghost from_str_gives = { λ text r. r ≡ conversion_word text };
+
+    fn from_str(text: &str) -> Result<Converts, Mistake> {
+        match text {
+            "keep" => Ok(Converts::Keep),
+            "widen" => Ok(Converts::Widen),
+            "unsigned" => Ok(Converts::Unsigned),
+            _ => Err(Mistake::Conversion),
+        }
+    }
+}
+
 // The option whose word is to come.
-#[derive(Clone, Copy)]
-pub enum Awaits {
-    Nothing,
+#[derive(Clone, Copy, Debug, PartialEq, Eq, Hash)]
+pub enum Awaited {
     Conversion,
     Heads,
 }
 
 // What the options say: the conversion, which of the option words names the file of heads, and whether to print JSON.
-#[derive(Clone, Copy)]
+#[derive(Clone, Copy, Debug, PartialEq, Eq, Hash)]
 pub struct Options {
-    pub awaits: Awaits,
+    pub awaits: Option<Awaited>,
     pub converts: Converts,
     pub heads: Option<usize>,
     pub json: bool,
 }
 
 // A column that can be read.
-#[derive(Clone, Copy)]
+#[derive(Clone, Copy, Debug, PartialEq, Eq, Hash)]
 pub enum Column {
     Int32,
     Widened,
@@ -42,45 +57,22 @@ pub enum Column {
     ByteArray,
 }
 
-fn conversion_of(text: &str) -> Result<Converts, Mistake>
-    ensures { result ≡ conversion_word text.now }
-{
-    match text {
-        "keep" => Ok(Converts::Keep),
-        "widen" => Ok(Converts::Widen),
-        "unsigned" => Ok(Converts::Unsigned),
-        _ => Err(Mistake::Conversion),
-    }
-}
-
 // A word where an option may stand.
 fn option_word(known: Options, word: &str) -> Result<Options, Mistake>
     ensures { result ≡ after_option known word.now }
 {
-    let Options {
-        awaits,
-        converts,
-        heads,
-        json,
-    } = known;
     match word {
         "--conversion" => Ok(Options {
-            awaits: Awaits::Conversion,
-            converts,
-            heads,
-            json,
+            awaits: Some(Awaited::Conversion),
+            ..known
         }),
         "--directory" => Ok(Options {
-            awaits: Awaits::Heads,
-            converts,
-            heads,
-            json,
+            awaits: Some(Awaited::Heads),
+            ..known
         }),
         "--json" => Ok(Options {
-            awaits,
-            converts,
-            heads,
             json: true,
+            ..known
         }),
         _ => Err(Mistake::Option),
     }
@@ -90,28 +82,17 @@ fn option_word(known: Options, word: &str) -> Result<Options, Mistake>
 fn next_word(known: Options, at: usize, word: &str) -> Result<Options, Mistake>
     ensures { result ≡ after_word known at word.now }
 {
-    let Options {
-        awaits,
-        converts,
-        heads,
-        json,
-    } = known;
-    match awaits {
-        Awaits::Nothing => option_word(known, word),
-        Awaits::Conversion => {
-            let converts = conversion_of(word)?;
-            Ok(Options {
-                awaits: Awaits::Nothing,
-                converts,
-                heads,
-                json,
-            })
-        }
-        Awaits::Heads => Ok(Options {
-            awaits: Awaits::Nothing,
-            converts,
+    match known.awaits {
+        None => option_word(known, word),
+        Some(Awaited::Conversion) => Ok(Options {
+            awaits: None,
+            converts: Converts::from_str(word)?,
+            ..known
+        }),
+        Some(Awaited::Heads) => Ok(Options {
+            awaits: None,
             heads: Some(at),
-            json,
+            ..known
         }),
     }
 }
@@ -120,10 +101,10 @@ fn next_word(known: Options, at: usize, word: &str) -> Result<Options, Mistake>
 fn completed(chosen: Options) -> Result<Options, Mistake>
     ensures { result ≡ ended chosen }
 {
-    match chosen.awaits {
-        Awaits::Nothing => Ok(chosen),
-        _ => Err(Mistake::Missing),
+    if chosen.awaits.is_some() {
+        return Err(Mistake::Missing);
     }
+    Ok(chosen)
 }
 
 // What option words say, or the first mistake in them.
@@ -131,21 +112,18 @@ pub fn read_options(words: &[String]) -> Result<Options, Mistake>
     ensures { result ≡ options_in (map string_bytes words.now) }
 {
     let mut chosen = Options {
-        awaits: Awaits::Nothing,
+        awaits: None,
         converts: Converts::Keep,
         heads: None,
         json: false,
     };
-    for i in 0..words.len() {
-        match next_word(chosen, i, words[i].as_str()) {
-            Ok(more) => chosen = more,
-            Err(mistake) => return Err(mistake),
-        }
+    for (at, word) in words.iter().enumerate() {
+        chosen = next_word(chosen, at, word.as_str())?;
     }
     completed(chosen)
 }
 
-// The column of a kind and a conversion.
+// The column of a kind and a conversion. A TryFrom of the pair would say no more.
 pub fn choose_column(kind: Kind, converts: Converts) -> Result<Column, Mistake>
     ensures { result ≡ column_of kind converts }
 {

@@ -1,10 +1,11 @@
 // What stands in a sink, as text.
-ghost use Rattle.std.specs.Prelude.{◌≡◌, IfOk, string_bytes};
+ghost use Rattle.std.specs.Prelude.{◌≡◌, IfOk, Some, string_bytes};
 ghost use Rattle.std.specs.Fmt.{signed_decimal};
 ghost use Rattle.cli.specs.Layout.{text_at};
 
 use sinks::pushable::Sink;
 use std::alloc::{AllocError, Global};
+use std::fmt::Display;
 use values::Element;
 
 // A sink whose values can be written as text.
@@ -15,8 +16,7 @@ pub trait Printed: Sink {
         ensures same { self.new ≡ self.old };
 }
 
-// A number of fixed width that is written in decimal.
-pub trait Decimal: Element {
-    fn decimal(self, heap: Global) -> Result<String, AllocError>
-        ensures { IfOk result (λ s. string_bytes s ≡ signed_decimal (Self.Element.int self)) };
+// A number of fixed width that prints in decimal.
+pub trait Decimal: Element + Display {
+    ghost decimal: { (x : Self) → Self.Display.output x ≡ Some (signed_decimal (Self.Element.int x)) };
 }

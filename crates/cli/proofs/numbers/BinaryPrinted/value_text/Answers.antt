@@ -10,7 +10,7 @@ use Rattle.cli.proofs.numbers.BinaryPrinted.value_text.Goals as goal
 pub returns-in-None : goal.returns-in-None
 returns-in-None c =
     let s = c.args.self.now in
-    record { text = made_as string_bytes _ _ _ c.from_str.ensures.ok (shown_past _ c.args.i (rw (length_all s) c.in-None.ensures)); same = refl }
+    record { text = c.new.ensures.bytes ∙ shown_past _ c.args.i (rw (length_all s) c.in-None.ensures); same = refl }
 
 pub returns-in-Some : goal.returns-in-Some
 returns-in-Some c =
