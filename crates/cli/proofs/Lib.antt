@@ -1,3 +1,3 @@
-mod Figures
+mod HeadsRead
 mod Shown
 mod Laid

@@ -5,10 +5,6 @@ use Rattle.pages.specs.Delivered.{Delivered, page, dict, fault}
 abbrev pub le32 : List ℕ → ℕ → ℕ
 le32 bs i = slice_index bs i + slice_index bs (i + 1) * 256 + slice_index bs (i + 2) * 65536 + slice_index bs (i + 3) * 16777216
 
--- the first n bytes and those after them, if there are n
-abbrev pub parted : List ℕ → ℕ → Option (List ℕ × List ℕ)
-parted bs n = cond (nat_lt (length bs) n) None (Some (take n bs, drop n bs))
-
 -- what a command delivers, and the bytes after it: after a fault there are none
 pub record Taken : Type 0 where
   pub what : Delivered

@@ -1,4 +1,4 @@
-use Rattle.cli.proofs.Figures.{front_long, front_is, more_heads, same_over}
+use Rattle.cli.proofs.HeadsRead.{front_long, front_is, more_heads, same_over}
 use Rattle.cli.proofs.heads.heads_of.Goals as goal
 
 pub loop-head-preserved : goal.loop-head-preserved
