@@ -1,6 +1,7 @@
 // What a program around the reader needs: the words of its command line, the heads of a directory, and chunks as text.
 #![tactic(auto)]
 
+pub mod chunks;
 pub mod decimal;
 pub mod heads;
 pub mod layout;

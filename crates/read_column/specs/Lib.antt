@@ -1,3 +1,1 @@
-pub mod Words
 pub mod Wants
-pub mod Layout

@@ -2,15 +2,12 @@
 #![tactic(auto)]
 
 mod chunks;
-mod faulty;
-mod layout;
 mod words;
 
 use anyhow::anyhow;
-use std::alloc::AllocError;
 use std::process::ExitCode;
 use std::{env, fs};
-use words::{Mistake, Wanted, understand};
+use words::understand;
 
 const USAGE: &str = "usage: read_column FILE KIND optional|required CHUNK LIMIT";
 
@@ -28,17 +25,17 @@ fn run(rt: &HostRuntime) -> anyhow::Result<()> {
     let [file, kind, flag, chunk, limit] = words.as_slice() else {
         return Err(anyhow!("five words are wanted"));
     };
-    let wanted = match understand(kind.as_str(), flag.as_str(), chunk.as_str(), limit.as_str()) {
-        Ok(wanted) => wanted,
-        Err(mistake) => {
-            let said = words::said(mistake);
-            return Err(anyhow!("{said}"));
-        }
-    };
+    let wanted = understand(
+        kind.as_str(),
+        flag.as_str(),
+        chunk.as_str(),
+        limit.as_str(),
+    )?;
     let Ok(bytes) = fs::read(rt, file.as_str()) else {
         return Err(anyhow!("the file cannot be read"));
     };
-    chunks::print_pages(rt, wanted, bytes.as_slice())
+    chunks::print_pages(rt, wanted, bytes.as_slice())?;
+    Ok(())
 }
 
 fn main(rt: HostRuntime) -> ExitCode {
