@@ -25,12 +25,7 @@ fn run(rt: &HostRuntime) -> anyhow::Result<()> {
     let [file, kind, flag, chunk, limit] = words.as_slice() else {
         return Err(anyhow!("five words are wanted"));
     };
-    let wanted = understand(
-        kind.as_str(),
-        flag.as_str(),
-        chunk.as_str(),
-        limit.as_str(),
-    )?;
+    let wanted = understand(kind.as_str(), flag.as_str(), chunk.as_str(), limit.as_str())?;
     let Ok(bytes) = fs::read(rt, file.as_str()) else {
         return Err(anyhow!("the file cannot be read"));
     };

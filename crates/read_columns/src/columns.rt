@@ -1,6 +1,6 @@
 // The columns that can be read, each with its decoder and the memory of its chunk.
-use crate::chunks::print_chunks;
 use bitmap::mutable::MutableBitmap;
+use cli::chunks::print_chunks;
 use cli::options::Column;
 use cli::words::Wanted;
 use deserialize::binary::basic::byte_array;
@@ -9,17 +9,19 @@ use deserialize::primitive::basic::{double, float, int32, int32_unsigned, int32_
 use pages::pages::Pages;
 use sinks::binary::Binary;
 use sinks::fixed::Fixed;
+use std::io;
 
 // The bytes that the rows of a chunk may have together.
 const BYTES: usize = 16777216;
 
-// Lends memory of `rows` elements to the chunk of a column of numbers, and reads the column to its end.
+// A column of numbers, whose chunk has one element for each row. A generic function in its place does not prove yet: the borrow
+// checker's part is not made where the decoder's type has parameters and the source a lifetime.
 macro_rules! print_numbers {
     ($rt:expr, $wanted:expr, $source:expr, $validity:expr, $zero:expr, $column:expr) => {{
         let mut memory = vec![in $rt.alloc(); $zero; $wanted.chunk as usize]?;
         let mut sink = Fixed::new(memory.as_mut_slice());
         let mut column = $column;
-        print_chunks($rt, $wanted, &mut column, $source, &mut sink, $validity)
+        print_chunks($rt, $rt.alloc(), $wanted, &mut column, $source, &mut sink, $validity)
     }};
 }
 
@@ -29,11 +31,19 @@ fn print_flags<'a, S: Pages<'a>>(
     wanted: Wanted,
     source: &mut S,
     validity: &mut MutableBitmap<'_>,
-) -> anyhow::Result<()> {
+) -> io::Result<()> {
     let mut memory = vec![in rt.alloc(); 0u8; wanted.chunk as usize / 8 + 1]?;
     let mut sink = MutableBitmap::new(memory.as_mut_slice());
     let mut column = boolean(wanted.optional);
-    print_chunks(rt, wanted, &mut column, source, &mut sink, validity)
+    print_chunks(
+        rt,
+        rt.alloc(),
+        wanted,
+        &mut column,
+        source,
+        &mut sink,
+        validity,
+    )
 }
 
 // A column of byte values, whose chunk has one offset more than rows, and memory for their bytes.
@@ -42,12 +52,20 @@ fn print_bytes<'a, S: Pages<'a>>(
     wanted: Wanted,
     source: &mut S,
     validity: &mut MutableBitmap<'_>,
-) -> anyhow::Result<()> {
+) -> io::Result<()> {
     let mut offsets = vec![in rt.alloc(); 0i32; wanted.chunk as usize + 1]?;
     let mut memory = vec![in rt.alloc(); 0u8; BYTES]?;
     let mut sink = Binary::new(offsets.as_mut_slice(), memory.as_mut_slice());
     let mut column = byte_array(wanted.optional);
-    print_chunks(rt, wanted, &mut column, source, &mut sink, validity)
+    print_chunks(
+        rt,
+        rt.alloc(),
+        wanted,
+        &mut column,
+        source,
+        &mut sink,
+        validity,
+    )
 }
 
 // Reads the column that is wanted to its end and prints each answer.
@@ -56,7 +74,7 @@ pub fn print_column<'a, S: Pages<'a>>(
     wanted: Wanted,
     column: Column,
     source: &mut S,
-) -> anyhow::Result<()> {
+) -> io::Result<()> {
     let optional = wanted.optional;
     let mut flags = vec![in rt.alloc(); 0u8; wanted.chunk as usize / 8 + 1]?;
     let mut validity = MutableBitmap::new(flags.as_mut_slice());

@@ -2,16 +2,14 @@
 // chunk.
 #![tactic(auto)]
 
-mod chunks;
 mod columns;
 
 use anyhow::anyhow;
 use cli::heads::heads_of;
 use cli::options::{Column, choose_column, read_options};
-use cli::words::{Mistake, Wanted, said, understand};
+use cli::words::{Wanted, understand};
 use columns::print_column;
 use pages::directory::Directory;
-use pages::heads::Head;
 use pages::stream::Stream;
 use std::process::ExitCode;
 use std::{env, fs};
@@ -28,28 +26,6 @@ fn arguments(rt: &HostRuntime) -> anyhow::Result<Vec<String>> {
     Ok(words)
 }
 
-// A mistake in the words as the program's error.
-fn understood<T: Drop>(r: Result<T, Mistake>) -> anyhow::Result<T> {
-    match r {
-        Ok(x) => Ok(x),
-        Err(mistake) => {
-            let text = said(mistake);
-            Err(anyhow!("{text}"))
-        }
-    }
-}
-
-fn print_directory<'a>(
-    rt: &HostRuntime,
-    wanted: Wanted,
-    column: Column,
-    buffer: &'a [u8],
-    heads: &'a [Head],
-) -> anyhow::Result<()> {
-    let mut source = Directory::new(buffer, heads);
-    print_column(rt, wanted, column, &mut source)
-}
-
 // The pages lie in a buffer, where the heads of another file say.
 fn read_directory(
     rt: &HostRuntime,
@@ -64,7 +40,9 @@ fn read_directory(
     let Some(heads) = heads_of(rt.alloc(), bytes.as_slice())? else {
         return Err(anyhow!("the file of heads has no whole number of heads of 15 bytes"));
     };
-    print_directory(rt, wanted, column, buffer, heads.as_slice())
+    let mut source = Directory::new(buffer, heads.as_slice());
+    print_column(rt, wanted, column, &mut source)?;
+    Ok(())
 }
 
 fn run(rt: &HostRuntime) -> anyhow::Result<()> {
@@ -72,23 +50,17 @@ fn run(rt: &HostRuntime) -> anyhow::Result<()> {
     let [file, kind, flag, chunk, limit, rest @ ..] = words.as_slice() else {
         return Err(anyhow!("five words are wanted"));
     };
-    let wanted = understood(understand(
-        kind.as_str(),
-        flag.as_str(),
-        chunk.as_str(),
-        limit.as_str(),
-    ))?;
-    let options = understood(read_options(rest))?;
-    let column = understood(choose_column(wanted.kind, options.converts))?;
+    let wanted = understand(kind.as_str(), flag.as_str(), chunk.as_str(), limit.as_str())?;
+    let options = read_options(rest)?;
+    let column = choose_column(wanted.kind, options.converts)?;
     let Ok(bytes) = fs::read(rt, file.as_str()) else {
         return Err(anyhow!("the file cannot be read"));
     };
-    match options.heads {
-        Some(i) if i < rest.len() => {
-            read_directory(rt, wanted, column, bytes.as_slice(), rest[i].as_str())
-        }
-        _ => print_column(rt, wanted, column, &mut Stream::new(bytes.as_slice())),
-    }
+    let Some(heads) = options.heads.and_then(|i| rest.get(i)) else {
+        print_column(rt, wanted, column, &mut Stream::new(bytes.as_slice()))?;
+        return Ok(());
+    };
+    read_directory(rt, wanted, column, bytes.as_slice(), heads.as_str())
 }
 
 fn main(rt: HostRuntime) -> ExitCode {
