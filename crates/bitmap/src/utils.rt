@@ -1,7 +1,8 @@
 ghost use Rattle.std.specs.Prelude.{◌≡◌, ◌+◌, ◌-◌, ◌*◌, ◌/◌, ◌%◌, ◌^◌, ◌<◌, ◌≤◌, [], ◌∷◌, length, if◌then◌else◌, Some, None, bit_or, nat_le};
 ghost use Rattle.std.specs.Option.{option_map};
 ghost use Rattle.bitmap.specs.Bitmaps.{bits, bit_at, part, capacity};
-ghost use Rattle.bitmap.specs.Left.{left, first, rest};
+ghost use Rattle.std.specs.Iterator.{YieldsFirst, item_count};
+ghost use Rattle.bitmap.specs.Left.{left};
 
 // Bit i of some bytes. Past the end there are no bits, and the answer is false.
 pub fn get_bit(bytes: &[u8], i: usize) -> bool
@@ -68,6 +69,20 @@ pub(crate) fn byte_at(bytes: &[u8], p: usize) -> u8
     merge_reversed(bytes[k], bytes[k + 1], s)
 }
 
+// Whether n more fit beside the `used` ones. The sum is not formed, since it may pass what a usize can hold.
+pub fn has_room(used: usize, n: usize, room: usize) -> bool
+    ensures { result ≡ nat_le (used + n) room }
+{
+    used <= room && n <= room - used
+}
+
+// How many bits some bytes have room for, as far as a usize can count them.
+pub(crate) fn capacity_of(bytes: &[u8]) -> usize
+    ensures { result ≡ capacity (length bytes.now) }
+{
+    bytes.len().saturating_mul(8)
+}
+
 // Some bits of borrowed bytes, one after another.
 #[derive(Clone, Copy)]
 pub struct BitmapIter<'a> {
@@ -81,8 +96,7 @@ impl<'a> BitmapIter<'a> {
     pub fn new(bytes: &'a [u8], offset: usize, n: usize) -> Option<BitmapIter<'a>>
         ensures { option_map left result ≡ (if nat_le (offset + n) (capacity (length bytes.now)) then Some (part offset n bytes.now) else None) }
     {
-        let held = bytes.len().saturating_mul(8);
-        if offset > held || n > held - offset {
+        if !has_room(offset, n, capacity_of(bytes)) {
             return None;
         }
         Some(BitmapIter {
@@ -91,24 +105,32 @@ impl<'a> BitmapIter<'a> {
             end: offset + n,
         })
     }
+}
 
-    // How many bits are left.
-    pub fn len(&self) -> usize
-        ensures { result ≡ length (left self.now) }
-    {
-        self.end.saturating_sub(self.index)
-    }
+impl<'a> Iterator for BitmapIter<'a> {
+    type Item = bool;
 
-    // The next bit, or None after the last.
-    pub fn next(&mut self) -> Option<bool>
-        ensures given { result ≡ first (left self.old) }
-        ensures after { left self.new ≡ rest (left self.old) }
-    {
+    ghost next_gives = { YieldsFirst left };
+
+    ghost remaining = { item_count left };
+
+    fn next(&mut self) -> Option<bool> {
         if self.index >= self.end {
             return None;
         }
         let i = self.index;
         self.index = i + 1;
         Some(get_bit(self.bytes, i))
+    }
+
+    fn size_hint(&self) -> (usize, Option<usize>) {
+        let n = self.len();
+        (n, Some(n))
+    }
+}
+
+impl<'a> ExactSizeIterator for BitmapIter<'a> {
+    fn len(&self) -> usize {
+        self.end.saturating_sub(self.index)
     }
 }

@@ -1,15 +1,16 @@
 -- Rows of bytes by their offsets: one row more, the bytes that rows take, and where they are seen.
-use Rattle.std.proofs.Common.{◌≡◌, ℕ, ◌+◌, ◌-◌, ◌^◌, ◌<◌, ◌≤◌, Bool, true, false, cond, ◌&&◌, leb, ◌≢◌, List, [], ◌∷◌, ◌++◌, map, length, get_or, take, drop, set, ℤ, pos, Some, sym, refl, ap, ◌∙◌, subst, ⊎_elim, zero-add, arith, length-append, w32, to_z, of_z}
+use Rattle.std.proofs.Common.{◌≡◌, ℕ, ◌+◌, ◌-◌, ◌^◌, ◌<◌, ◌≤◌, Bool, true, false, cond, ◌&&◌, leb, ltb, ◌≢◌, List, [], ◌∷◌, ◌++◌, map, length, get_or, take, drop, set, ℤ, pos, Some, None, sym, refl, ap, ◌∙◌, subst, ⊎_elim, zero-add, arith, length-append, w32, to_z, of_z}
 use Rattle.std.specs.List.{range_with_len}
+use Rattle.std.specs.Option.{option_map}
 use Rattle.std.proofs.lemmas.List.FromFn.{map-range_with_len_more, length-map-range_with_len, get_or-map-range_with_len, take-map-range_with_len}
 use Rattle.std.proofs.lemmas.List.{drop-take, take-take, take_at, drop_at, length-take-le, get_or-set_same, get_or-set_other, same_lists}
 use Rattle.std.proofs.lemmas.Int.{to_z_pos}
-use Rattle.std.proofs.lemmas.Bool.{cases_eq}
-use Rattle.values.specs.Values.{Value, bytes, fits, joined, weights, seen_as, seen_at, a_place}
+use Rattle.std.proofs.lemmas.Bool.{cases_eq, cases_lt, lt-ltb, le-ltb}
+use Rattle.values.specs.Values.{Value, bytes, fits, joined, weights, Seen, seen_as, seen_at, a_place}
 use Rattle.sinks.specs.Offsets.{place, mark, cut, row, string, strings, Signed, Rising, row_room, byte_room, of_offsets}
 use Rattle.sinks.specs.Fits.{length_row, spans}
 use Rattle.sinks.specs.declared.binary.Binary.{Binary}
-use Rattle.sinks.proofs.Rows.{weights_append, seen_within}
+use Rattle.sinks.proofs.Rows.{weights_append, seen_past, seen_within}
 
 -- memory as long as before, and the same memory
 pub same_room : {m m' n n' : ℕ} → m ≡ m' → n ≡ n' → of_offsets m n ≡ of_offsets m' n'
@@ -22,10 +23,6 @@ same_home {m} {m'} {n} {n'} p q = ap (λ t. t ∷ (n ∷ [])) p ∙ ap (λ t. m'
 pub start_first : (xs : List ℤ) → get_or (set xs 0 (pos 0)) 0 (pos 0) ≡ pos 0
 start_first [] = refl
 start_first (x ∷ xs) = refl
-
-pub start_none : (xs : List ℤ) → length xs ≤ 0 → xs ≡ set xs 0 (pos 0)
-start_none [] h = refl
-start_none (x ∷ xs) h = absurd (omega arith)
 
 pub start_signed : (xs : List ℤ) → get_or xs 0 (pos 0) ≡ pos 0 → Signed 0 xs
 start_signed xs e i h =
@@ -94,6 +91,10 @@ module _ (s : Binary) (k : ℕ) (x : ℤ) (is : x ≡ pos (s.used + k)) (room : 
       ap (λ t. string text t (mark more (i + 1) - t)) (mark_old i (omega arith)) ∙ ap (λ t. string text (mark offs i) (t - mark offs i)) (mark_old (i + 1) (omega arith))))
       ∙ ap (λ t. strings s.rows offs text ++ t ∷ []) (ap (λ t. string text t (mark more (s.rows + 1) - t)) (mark_old s.rows (omega arith) ∙ mark_last) ∙ ap (λ t. string text s.used (t - s.used)) mark_new ∙ ap (string text s.used) d)
 
+-- what is seen of the bytes from a up to e
+abbrev pub place_of : ℕ × ℕ → Seen
+place_of p = a_place p.0 (p.1 - p.0)
+
 -- a sink s: its rows and their bytes
 module _ (s : Binary) where
   abbrev all : List Value
@@ -127,6 +128,13 @@ module _ (s : Binary) where
       ∙ ap (λ v. Some (seen_as (0 + weights (take i all)) v)) (get_or-map-range_with_len f 0 s.rows i i (bytes []) h (zero-add i))
       ∙ ap (λ p. Some (a_place p (length (row s.offsets.now s.bytes.now i)))) at
       ∙ ap (λ n. Some (a_place (mark s.offsets.now i) n)) long)
+
+  -- what is seen at the bounds of row i, if there is one
+  pub seen_bounds : (i : ℕ) → option_map place_of (cond (ltb i s.rows) (Some (mark s.offsets.now i, mark s.offsets.now (i + 1))) None) ≡ seen_at 0 all i
+  seen_bounds i = ⊎_elim
+      (λ h. ap (λ t. option_map place_of (cond t (Some (mark s.offsets.now i, mark s.offsets.now (i + 1))) None)) (lt-ltb i s.rows h) ∙ seen_row i h)
+      (λ h. ap (λ t. option_map place_of (cond t (Some (mark s.offsets.now i, mark s.offsets.now (i + 1))) None)) (le-ltb i s.rows h) ∙ sym (seen_past 0 all i (rw length_all h)))
+      (cases_lt i s.rows)
 
   -- what an append of k rows of w bytes says, as what a sink says
   pub strings_grown : (k w : ℕ) (vs zs : List Value) (ok : Bool) → length vs ≡ k → weights vs ≡ w → ok ≡ (leb (s.rows + k) (row_room (length s.offsets.now)) && leb (s.used + w) (byte_room (length s.bytes.now))) → zs ≡ cond ok (all ++ vs) all → (ok ≡ fits (of_offsets (length s.offsets.now) (length s.bytes.now)) (all ++ vs)) × (zs ≡ joined (of_offsets (length s.offsets.now) (length s.bytes.now)) all vs)

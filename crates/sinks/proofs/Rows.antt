@@ -1,6 +1,9 @@
 -- Lists of values, and what appends to them say.
-use Rattle.std.proofs.Common.{◌≡◌, ℕ, zero, suc, ◌+◌, ◌<◌, ◌≤◌, Bool, true, false, cond, leb, List, [], ◌∷◌, ◌++◌, map, length, get_or, take, set, replicate, ℤ, pos, Some, None, sym, refl, ap, ◌∙◌, add-zero, add_assoc, zero-add, arith, length-append}
-use Rattle.std.proofs.lemmas.List.{map-append, length-map, get_or-map, length-take-le, take_more_set, append_assoc}
+use Rattle.std.proofs.Common.{◌≡◌, ℕ, zero, suc, ◌+◌, ◌<◌, ◌≤◌, Bool, true, false, cond, leb, List, [], ◌∷◌, ◌++◌, map, length, get_or, slice_get, take, set, replicate, ℤ, pos, Bor, Option, Some, None, sym, refl, ap, ◌∙◌, add-zero, add_assoc, zero-add, arith, length-append}
+use Rattle.std.specs.Option.{option_map, option_copied}
+use Rattle.std.specs.Slice.{IsItemAt}
+use Rattle.std.proofs.lemmas.Option.{slice_get-get_or, slice_get_past}
+use Rattle.std.proofs.lemmas.List.{map-append, length-map, length-take-le, take_more_set, append_assoc}
 use Rattle.values.specs.Values.{Value, fits, joined, weight, weights, number, bytes, Seen, seen_as, seen_at}
 use Rattle.sinks.specs.Fixed.{of_rows, numbers}
 use Rattle.sinks.specs.Fits.{weights_free}
@@ -24,16 +27,21 @@ seen_within p [] i d h = absurd (omega arith)
 seen_within p (v ∷ vs) zero d h = ap (λ t. Some (seen_as t v)) (sym (add-zero p))
 seen_within p (v ∷ vs) (suc i) d h = seen_within (p + weight v) vs i d (omega arith) ∙ ap (λ t. Some (seen_as t (get_or vs i d))) (add_assoc p (weight v) (weights (take i vs)))
 
+-- a look at element i of a slice, copied
+pub get_copied : {X : Type 0} (xs : List X) (i : ℕ) (r : Option (Bor X)) → IsItemAt xs i r → option_copied r ≡ slice_get xs i
+get_copied xs i None h = sym (slice_get_past xs i h.3)
+get_copied xs i (Some x) h = ap Some h.1 ∙ sym (slice_get-get_or xs i x.now h.3.0)
+
+-- values that take no bytes are seen as themselves
+pub seen_listed : {X : Type 0} (g : X → Value) (h : X → Seen) → ((p : ℕ) (x : X) → h x ≡ seen_as p (g x)) → (p : ℕ) (xs : List X) (i : ℕ) → option_map h (slice_get xs i) ≡ seen_at p (map g xs) i
+seen_listed g h same p [] i = refl
+seen_listed g h same p (x ∷ xs) zero = ap Some (same p x)
+seen_listed g h same p (x ∷ xs) (suc i) = seen_listed g h same (p + weight (g x)) xs i
+
 pub seen_past : (p : ℕ) (vs : List Value) (i : ℕ) → length vs ≤ i → seen_at p vs i ≡ None
 seen_past p [] i h = refl
 seen_past p (v ∷ vs) zero h = absurd (omega arith)
 seen_past p (v ∷ vs) (suc i) h = seen_past (p + weight v) vs i (omega arith)
-
--- a value that takes no bytes is seen as itself
-pub seen_free : {X : Type 0} (g : X → Value) (h : X → Seen) → ((p : ℕ) (x : X) → seen_as p (g x) ≡ h x) → (xs : List X) (i : ℕ) (d : X) → i < length xs → Some (h (get_or xs i d)) ≡ seen_at 0 (map g xs) i
-seen_free g h same xs i d l =
-    let m : i < length (map g xs) = rw (length-map xs g) l in
-    sym (seen_within 0 (map g xs) i (g d) m ∙ ap (λ v. Some (seen_as (0 + weights (take i (map g xs))) v)) (get_or-map g xs i d (g d) l) ∙ ap Some (same (0 + weights (take i (map g xs))) (get_or xs i d)))
 
 -- values that take no bytes: what an append of k to the u that are there says, as what a sink says
 module _ {X : Type 0} (g : X → Value) (free : (x : X) → weight (g x) ≡ 0) (n u k : ℕ) (b : Value) (xs ys zs : List X) (vs : List Value) (ok : Bool) where
