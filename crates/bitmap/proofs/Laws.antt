@@ -10,6 +10,9 @@ use Rattle.bitmap.proofs.Bytes.{topped, topped_low, topped_top, topped_below}
 pub length_bits : (n : ℕ) (bs : List ℕ) → length (bits n bs) ≡ n
 length_bits n bs = length-map-range_with_len (bit_at bs) 0 n
 
+pub length_part : (offset n : ℕ) (bs : List ℕ) → length (part offset n bs) ≡ n
+length_part offset n bs = length-map-range_with_len (bit_at bs) offset n
+
 pub bits_more : (n : ℕ) (bs : List ℕ) → bits (n + 1) bs ≡ bits n bs ++ bit_at bs n ∷ []
 bits_more n bs = map-range_with_len_more (bit_at bs) 0 n n (omega arith)
 

@@ -1,5 +1,5 @@
 -- a whole byte at once
-use Rattle.std.proofs.Common.{◌≡◌, ℕ, zero, suc, ◌+◌, ◌/◌, ◌%◌, ◌^◌, ◌<◌, Bool, true, false, cond, eqb, ◌≢◌, List, [], ◌∷◌, ◌++◌, map, length, get_or, set, replicate, sym, refl, ap, ◌∙◌, add-zero, zero-add, arith}
+use Rattle.std.proofs.Common.{◌≡◌, ℕ, zero, suc, ◌+◌, ◌/◌, ◌%◌, ◌^◌, ◌<◌, eqb, ◌≢◌, List, [], ◌∷◌, ◌++◌, map, length, get_or, set, sym, refl, ap, ◌∙◌, add-zero, zero-add, arith}
 use Rattle.std.specs.List.{range_with_len}
 use Rattle.std.proofs.lemmas.List.{get_or-set_same, get_or-set_other}
 use Rattle.bitmap.specs.Bitmaps.{bit_at, bits, part}
@@ -42,8 +42,3 @@ bits_byte bs n b z w =
     ∙ ap (λ t. eqb (t / 2 ^ ((0 + n + i) % 8) % 2) 1) (get_or-set_same bs (n / 8) b 0 w)
     ∙ ap (λ t. eqb (b / 2 ^ t % 2) 1) q
     ∙ ap (λ t. eqb (get_or (b ∷ []) t 0 / 2 ^ ((0 + i) % 8) % 2) 1) r))
-
--- eight equal bits are a byte of 255 or 0
-pub eight : (v : Bool) → bits 8 (cond v 255 0 ∷ []) ≡ replicate 8 v
-eight true = refl
-eight false = refl

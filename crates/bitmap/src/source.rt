@@ -2,7 +2,7 @@
 ghost use Rattle.std.specs.Prelude.{◌≡◌, ℕ, ◌+◌, ◌<◌, ◌≤◌, Bool, [], ◌∷◌, length, is_some, IfSome, nat_le};
 ghost use Rattle.bitmap.specs.Bitmaps.{bits, bit_at, bits_between, capacity};
 
-use crate::utils::{bit_of, byte_at, byte_of, capacity_of, has_room};
+use crate::utils::{bit_of, byte_at, capacity_of, has_room};
 
 // Some bits: each of them, and eight at once.
 pub(crate) trait Bits {
@@ -45,7 +45,7 @@ impl Bits for Constant {
     }
 
     fn byte(&self, _i: usize) -> u8 {
-        byte_of(self.value)
+        if self.value { u8::MAX } else { 0 }
     }
 }
 

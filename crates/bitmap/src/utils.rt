@@ -8,11 +8,7 @@ ghost use Rattle.bitmap.specs.Left.{left};
 pub fn get_bit(bytes: &[u8], i: usize) -> bool
     ensures { result ≡ bit_at bytes.now i }
 {
-    if i / 8 < bytes.len() {
-        bit_of(bytes, i)
-    } else {
-        false
-    }
+    i / 8 < bytes.len() && bit_of(bytes, i)
 }
 
 // Bit i of some bytes that have it: no test, for loops whose bounds are known.
@@ -38,13 +34,6 @@ pub(crate) fn with_bit(byte: u8, j: usize, value: bool) -> u8
 {
     let low = low_bits(byte, j);
     if value { low | (1u8 << j) } else { low }
-}
-
-// Eight equal bits.
-pub(crate) fn byte_of(value: bool) -> u8
-    ensures { result ≡ (if value then 255 else 0) }
-{
-    if value { 255 } else { 0 }
 }
 
 // The bits of `current` from bit s on, and above them the lowest s bits of `next`.
@@ -130,6 +119,7 @@ impl<'a> Iterator for BitmapIter<'a> {
 }
 
 impl<'a> ExactSizeIterator for BitmapIter<'a> {
+    #[tactic(auto, using(crate::proofs::Laws::length_part))]
     fn len(&self) -> usize {
         self.end.saturating_sub(self.index)
     }

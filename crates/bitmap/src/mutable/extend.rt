@@ -1,4 +1,6 @@
 // Appending to a bitmap: a bit, or many bits of a source.
+#![tactic(auto, using(crate::proofs::Appending::length_between))]
+
 ghost use Rattle.std.specs.Prelude.{◌≡◌, ◌+◌, ◌-◌, ◌%◌, ◌<◌, ◌≤◌, [], ◌∷◌, length, replicate, is_ok, OnOk, OnErr, nat_le, nat_lt};
 ghost use Rattle.bitmap.specs.Appends.{Appends};
 ghost use Rattle.bitmap.specs.Bitmaps.{bits, bits_between, capacity, part};
@@ -57,11 +59,7 @@ impl<'a> MutableBitmap<'a> {
         if !has_room(self.used, n, self.capacity()) {
             return Err(Full);
         }
-        let gap = (8 - self.used % 8) % 8;
-        if n <= gap {
-            self.extend_bits(source, 0, n);
-            return Ok(());
-        }
+        let gap = n.min((8 - self.used % 8) % 8);
         let last = n - (n - gap) % 8;
         self.extend_bits(source, 0, gap);
         self.extend_bytes(source, gap, last);
@@ -87,7 +85,7 @@ impl<'a> MutableBitmap<'a> {
         requires held { end ≤ S.count source.now }
         requires room { self.old.used + (end - start) ≤ capacity (length self.old.buffer.now) }
         requires whole { (end - start) % 8 ≡ 0 }
-        requires aligned { self.old.used % 8 ≡ 0 }
+        requires aligned { start < end → self.old.used % 8 ≡ 0 }
         ensures { Appends self.old self.new (bits_between (S.at source.now) start end) }
     {
         for i in 0..(end - start) / 8 {
