@@ -7,7 +7,7 @@ use Rattle.bitmap.specs.Appends.{Appends}
 use Rattle.bitmap.specs.Bitmaps.{bits, bits_between}
 use Rattle.bitmap.specs.declared.mutable.MutableBitmap.{MutableBitmap}
 use Rattle.bitmap.proofs.Laws.{beyond_fewer}
-use Rattle.bitmap.proofs.Whole.{map_counting_append}
+use Rattle.bitmap.proofs.Runs.{map_counting_append}
 
 pub appends_none : (b : MutableBitmap) → Appends b b []
 appends_none b = record { count = omega arith; items = sym (append-nil (bits b.used b.buffer.now)); room = refl; home = refl; beyond = λ _ _. refl }

@@ -2,7 +2,7 @@
 use Rattle.std.proofs.Common.{◌≡◌, ℕ, zero, suc, ◌+◌, ◌-◌, Bool, List, ◌∷◌, map, replicate, refl, ap, ◌∙◌, arith}
 use Rattle.std.specs.List.{range_with_len}
 use Rattle.bitmap.specs.Bitmaps.{bit_at, bits_between, part}
-use Rattle.bitmap.proofs.Whole.{runs_same}
+use Rattle.bitmap.proofs.Runs.{runs_same}
 
 all_equal : (a n : ℕ) (v : Bool) → map (λ _. v) (range_with_len a n) ≡ replicate n v
 all_equal a zero v = refl

@@ -5,12 +5,16 @@ use Rattle.bitmap.specs.Appends.{Appends}
 use Rattle.bitmap.specs.Bitmaps.{bits, capacity}
 use Rattle.bitmap.specs.declared.mutable.MutableBitmap.{MutableBitmap}
 use Rattle.bitmap.proofs.Laws.{length_bits}
-use Rattle.values.specs.Values.{Value, fits, joined, flag}
+use Rattle.values.specs.Values.{Value, fits, joined, flag, weights}
 use Rattle.sinks.specs.Fixed.{of_rows, flags}
+use Rattle.sinks.specs.Fits.{weights_free}
 use Rattle.sinks.proofs.Rows.{grown}
 
 pub length_flags : (n : ℕ) (bytes : List ℕ) → length (flags (bits n bytes)) ≡ n
 length_flags n bytes = length-map (bits n bytes) flag ∙ length_bits n bytes
+
+pub weights_flags : (bs : List Bool) → weights (flags bs) ≡ 0
+weights_flags bs = weights_free flag (λ _. refl) bs
 
 -- what an append to a bitmap says, as what a sink says
 module _ {E : Type 0} (r : Result (Unit {0}) E) (old new : MutableBitmap) (xs : List Bool) (appended : OnOk r (Appends old new xs)) (kept : OnErr r (new ≡ old)) where

@@ -1,9 +1,9 @@
 -- Lists of values, and what appends to them say.
-use Rattle.std.proofs.Common.{◌≡◌, ℕ, zero, suc, ◌+◌, ◌<◌, ◌≤◌, Bool, true, false, cond, leb, List, [], ◌∷◌, ◌++◌, map, length, get_or, slice_get, take, set, replicate, ℤ, pos, Bor, Option, Some, None, sym, refl, ap, ◌∙◌, add-zero, add_assoc, zero-add, arith, length-append}
+use Rattle.std.proofs.Common.{◌≡◌, ℕ, zero, suc, ◌+◌, ◌<◌, ◌≤◌, Bool, true, false, cond, leb, List, [], ◌∷◌, ◌++◌, map, length, get_or, slice_get, take, replicate, ℤ, pos, Bor, Option, Some, None, sym, refl, ap, ◌∙◌, add-zero, add_assoc, zero-add, arith, length-append}
 use Rattle.std.specs.Option.{option_map, option_copied}
 use Rattle.std.specs.Slice.{IsItemAt}
 use Rattle.std.proofs.lemmas.Option.{slice_get-get_or, slice_get_past}
-use Rattle.std.proofs.lemmas.List.{map-append, length-map, length-take-le, take_more_set, append_assoc}
+use Rattle.std.proofs.lemmas.List.{map-append, length-map, length-take-le}
 use Rattle.values.specs.Values.{Value, fits, joined, weight, weights, number, bytes, Seen, seen_as, seen_at}
 use Rattle.sinks.specs.Fixed.{of_rows, numbers}
 use Rattle.sinks.specs.Fits.{weights_free}
@@ -65,6 +65,9 @@ module _ {X : Type 0} (g : X → Value) (free : (x : X) → weight (g x) ≡ 0) 
       let f : ok ≡ fits (of_rows n b) (map g xs ++ vs) = a ∙ ap (λ t. leb (t + k) n) (sym lu) ∙ ap (λ t. leb (length xs + t) n) (sym lk) ∙ sym fits_rows ∙ ap (λ t. fits (of_rows n b) (map g xs ++ t)) v in
       (f, ap (map g) e ∙ spread ok ∙ ap (λ t. cond ok (map g xs ++ t) (map g xs)) v ∙ ap (λ t. cond t (map g xs ++ vs) (map g xs)) f)
 
+pub weights_numbers : {X : Type 0} (f : X → ℤ) (xs : List X) → weights (numbers f xs) ≡ 0
+weights_numbers f xs = weights_free (λ x. number (f x)) (λ _. refl) xs
+
 -- the same of numbers in the first u places of a memory
 pub numbers_grown : {X : Type 0} (f : X → ℤ) (m : List X) (u k : ℕ) (ys zs : List X) (vs : List Value) (ok : Bool) → u ≤ length m → length ys ≡ k → numbers f ys ≡ vs → ok ≡ leb (u + k) (length m) → zs ≡ cond ok (take u m ++ ys) (take u m) → (ok ≡ fits (of_rows (length m) (number (pos 0))) (numbers f (take u m) ++ vs)) × (numbers f zs ≡ joined (of_rows (length m) (number (pos 0))) (numbers f (take u m)) vs)
 numbers_grown f m u k ys zs vs ok h = grown (λ x. number (f x)) (λ _. refl) (length m) u k (number (pos 0)) (take u m) ys zs vs ok (length-take-le u m h)
@@ -72,9 +75,3 @@ numbers_grown f m u k ys zs vs ok h = grown (λ x. number (f x)) (λ _. refl) (l
 -- n more elements z, which stand for 0
 pub zeros : {X : Type 0} (f : X → ℤ) (n : ℕ) (z : X) → f z ≡ pos 0 → numbers f (replicate n z) ≡ replicate n (number (pos 0))
 zeros f n z e = map_replicate (λ x. number (f x)) n z ∙ ap (λ t. replicate n (number t)) e
-
--- one more element stored, after xs and ys
-pub store_more : {X : Type 0} (m xs ys : List X) (u i : ℕ) (x : X) → u + i < length m → take (u + i) m ≡ xs ++ ys → take (u + (i + 1)) (set m (u + i) x) ≡ xs ++ (ys ++ x ∷ [])
-store_more m xs ys u i x h e =
-    let p : u + (i + 1) ≡ u + i + 1 = omega arith in
-    ap (λ t. take t (set m (u + i) x)) p ∙ take_more_set m (u + i) x h ∙ ap (λ t. t ++ x ∷ []) e ∙ append_assoc xs ys (x ∷ [])

@@ -1,3 +1,5 @@
+#![tactic(auto, using(crate::proofs::Marks::length_all, crate::proofs::Marks::weights_all))]
+
 ghost use Rattle.std.specs.Prelude.{◌≡◌, ◌+◌, ◌<◌, ◌≤◌, ◌&&◌, [], ◌∷◌, ◌++◌, length, take, replicate, pos, MatchOption, IfSome, Some, None, if◌then◌else◌, nat_lt, nat_le, slice_index_or, slice_set, refl};
 ghost use Rattle.sinks.specs.Offsets.{mark, row, string, strings, no_bytes, Signed, Rising, row_room, byte_room, of_offsets};
 ghost use Rattle.sinks.specs.Fits.{strings_fit};

@@ -1,4 +1,4 @@
-#![tactic(auto, using(bitmap::proofs::Laws::length_bits, crate::proofs::Flags::length_flags))]
+#![tactic(auto, using(bitmap::proofs::Laws::length_bits, crate::proofs::Flags::length_flags, crate::proofs::Flags::weights_flags))]
 
 ghost use Rattle.std.specs.Prelude.{false, [], ◌∷◌, length, refl};
 ghost use Rattle.bitmap.specs.Bitmaps.{bits, capacity};

@@ -1,3 +1,5 @@
+#![tactic(auto, using(crate::proofs::Rows::weights_numbers))]
+
 ghost use Rattle.std.specs.Prelude.{◌≡◌, ◌+◌, ◌≤◌, [], ◌∷◌, ◌++◌, length, take, replicate, pos, nat_le, refl};
 ghost use Rattle.values.specs.Values.{number};
 ghost use Rattle.sinks.specs.Fixed.{of_rows, numbers};
