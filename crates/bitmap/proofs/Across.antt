@@ -4,8 +4,8 @@ use native.Mathlib.Nat.{add-mul-div_right}
 use lib.Bits.{bit_or, or_shifted_r}
 use Rattle.std.proofs.lemmas.Nat.{pow_pos, pow-add, field_of, mod-pow-add, shl-shr, shr-shr, shr_below, shr_high, mod_low}
 use Rattle.std.proofs.lemmas.Bool.{cases_lt}
-use Rattle.bitmap.specs.Bitmaps.{bits, part}
-use Rattle.bitmap.proofs.Whole.{part_same}
+use Rattle.bitmap.specs.Bitmaps.{bit_at, bits, part}
+use Rattle.bitmap.proofs.Runs.{runs_same}
 
 -- a bit below what is cut off above stays
 cut_bit : (n s i : ℕ) → i < s → n % 2 ^ s / 2 ^ i % 2 ≡ n / 2 ^ i % 2
@@ -59,14 +59,14 @@ module _ (bs : List ℕ) (p r : ℕ) (made : r ≡ (get_or bs (p / 8 + 1) 0 % 2 
       ∙ ap (λ x. get_or bs x 0 / 2 ^ (i - (8 - p % 8)) % 2) a ∙ ap (λ x. get_or bs ((p + i) / 8) 0 / 2 ^ x % 2) b
 
   pub eight_across : bits 8 (r ∷ []) ≡ part p 8 bs
-  eight_across = part_same 0 p 8 (r ∷ []) bs (λ i h.
+  eight_across = runs_same (bit_at (r ∷ [])) (bit_at bs) 0 p 8 (λ i h.
       let z : (0 + i) / 8 ≡ 0 = omega arith in
       let m : (0 + i) % 8 ≡ i = omega arith in
       ap (λ x. eqb (get_or (r ∷ []) x 0 / 2 ^ ((0 + i) % 8) % 2) 1) z ∙ ap (λ x. eqb (r / 2 ^ x % 2) 1) m
       ∙ ap (λ x. eqb x 1) (⊎_elim (λ l. near i l) (λ l. far i h l) (cases_lt i (8 - p % 8))))
 
 pub eight_aligned : (bs : List ℕ) (p : ℕ) → p % 8 ≡ 0 → bits 8 (get_or bs (p / 8) 0 ∷ []) ≡ part p 8 bs
-eight_aligned bs p e = part_same 0 p 8 (get_or bs (p / 8) 0 ∷ []) bs (λ i h.
+eight_aligned bs p e = runs_same (bit_at (get_or bs (p / 8) 0 ∷ [])) (bit_at bs) 0 p 8 (λ i h.
     let z : (0 + i) / 8 ≡ 0 = omega arith in
     let a : p / 8 ≡ (p + i) / 8 = omega arith in
     let m : (0 + i) % 8 ≡ (p + i) % 8 = omega arith in

@@ -1,27 +1,24 @@
 -- bits of a list of bytes: parts, a bit pushed, and the bytes beyond
-use Rattle.std.proofs.Common.{◌≡◌, ℕ, suc, ◌+◌, ◌-◌, ◌/◌, ◌%◌, ◌^◌, ◌<◌, ◌≤◌, Bool, true, false, cond, eqb, ◌≢◌, List, [], ◌∷◌, ◌++◌, length, get_or, set, sym, refl, ap, ◌∙◌, subst, ⊎_elim, arith}
-use native.Mathlib.Nat.{zero-div}
-use Rattle.std.proofs.lemmas.List.{get_or-set_same, get_or-set_other, same_lists, get_or_past}
-use Rattle.std.proofs.lemmas.List.FromFn.{length-map-range_with_len, get_or-map-range_with_len, map-range_with_len_more}
+use Rattle.std.proofs.Common.{◌≡◌, ℕ, ◌+◌, ◌/◌, ◌%◌, ◌^◌, ◌<◌, ◌≤◌, Bool, true, false, cond, eqb, ◌≢◌, List, [], ◌∷◌, ◌++◌, length, get_or, set, sym, refl, ap, ◌∙◌, subst, ⊎_elim, arith}
+use Rattle.std.proofs.lemmas.List.{get_or-set_same, get_or-set_other}
+use Rattle.std.proofs.lemmas.List.FromFn.{length-map-range_with_len, map-range_with_len_more}
 use Rattle.std.proofs.lemmas.Bool.{cases_eq}
 use Rattle.bitmap.specs.Bitmaps.{bit_at, bits, Tidy, part}
+use Rattle.bitmap.proofs.Runs.{counted_same}
 use Rattle.bitmap.proofs.Bytes.{topped, topped_low, topped_top, topped_below}
 
 pub length_bits : (n : ℕ) (bs : List ℕ) → length (bits n bs) ≡ n
 length_bits n bs = length-map-range_with_len (bit_at bs) 0 n
+
+pub length_part : (offset n : ℕ) (bs : List ℕ) → length (part offset n bs) ≡ n
+length_part offset n bs = length-map-range_with_len (bit_at bs) offset n
 
 pub bits_more : (n : ℕ) (bs : List ℕ) → bits (n + 1) bs ≡ bits n bs ++ bit_at bs n ∷ []
 bits_more n bs = map-range_with_len_more (bit_at bs) 0 n n (omega arith)
 
 -- bits that agree one by one are the same bits
 pub bits_same : (n : ℕ) (bs cs : List ℕ) → ((i : ℕ) → i < n → bit_at bs i ≡ bit_at cs i) → bits n bs ≡ bits n cs
-bits_same n bs cs e = same_lists _ _ (length_bits n bs ∙ sym (length_bits n cs)) (λ k d h.
-    let l : k < n = subst (λ t. k < t) (length_bits n bs) h in
-    get_or-map-range_with_len (bit_at bs) 0 n k k d l (omega arith) ∙ e k l ∙ sym (get_or-map-range_with_len (bit_at cs) 0 n k k d l (omega arith)))
-
--- past the end there are no bits
-pub bit_past : (bs : List ℕ) (i : ℕ) → length bs ≤ i / 8 → false ≡ bit_at bs i
-bit_past bs i h = sym (ap (λ t. eqb (t / 2 ^ (i % 8) % 2) 1) (get_or_past bs (i / 8) 0 h) ∙ ap (λ t. eqb (t % 2) 1) (zero-div (2 ^ (i % 8))))
+bits_same n bs cs e = counted_same (bit_at bs) (bit_at cs) n e
 
 -- the bytes after a push
 abbrev pub pushed : List ℕ → ℕ → Bool → List ℕ
@@ -57,16 +54,6 @@ tidy_pushed bs n v w h =
     let q : n % 8 + 1 ≡ (n + 1) % 8 = omega arith in
     let b = topped_below (get_or bs (n / 8) 0) (n % 8) v in
     subst (λ t. t < 2 ^ ((n + 1) % 8)) (sym (ap (λ t. get_or (pushed bs n v) t 0) p ∙ get_or-set_same bs (n / 8) (topped (get_or bs (n / 8) 0) (n % 8) v) 0 w)) (subst (λ t. topped (get_or bs (n / 8) 0) (n % 8) v < 2 ^ t) q b)
-
--- one more bit of a part
-pub part_more : (offset n : ℕ) (bs : List ℕ) → part offset (n + 1) bs ≡ part offset n bs ++ bit_at bs (offset + n) ∷ []
-part_more offset n bs = map-range_with_len_more (bit_at bs) offset n (offset + n) refl
-
--- the bits up to e from bit a on, the first one apart
-pub part_first : (a e : ℕ) (bs : List ℕ) → a < e → part a (e - a) bs ≡ bit_at bs a ∷ part (a + 1) (e - (a + 1)) bs
-part_first a e bs h =
-    let n : e - a ≡ suc (e - (a + 1)) = omega arith in
-    ap (λ t. part a t bs) n
 
 -- a byte that is set leaves those beyond the bits that reach into it
 pub beyond_set : (bs : List ℕ) (n m k b : ℕ) → n < m → (m + 7) / 8 ≤ k → get_or (set bs (n / 8) b) k 0 ≡ get_or bs k 0

@@ -1,23 +1,9 @@
 -- a whole byte at once
-use Rattle.std.proofs.Common.{◌≡◌, ℕ, zero, suc, ◌+◌, ◌/◌, ◌%◌, ◌^◌, ◌<◌, Bool, true, false, cond, eqb, ◌≢◌, List, [], ◌∷◌, ◌++◌, map, length, get_or, set, replicate, sym, refl, ap, ◌∙◌, subst, add-zero, zero-add, arith}
-use Rattle.std.specs.List.{range_with_len}
-use Rattle.std.proofs.lemmas.List.{get_or-set_same, get_or-set_other, same_lists}
-use Rattle.std.proofs.lemmas.List.FromFn.{length-map-range_with_len, get_or-map-range_with_len}
+use Rattle.std.proofs.Common.{◌≡◌, ℕ, ◌+◌, ◌/◌, ◌%◌, ◌^◌, ◌<◌, eqb, ◌≢◌, List, [], ◌∷◌, ◌++◌, length, get_or, set, ap, ◌∙◌, arith}
+use Rattle.std.proofs.lemmas.List.{get_or-set_same, get_or-set_other}
 use Rattle.bitmap.specs.Bitmaps.{bit_at, bits, part}
 use Rattle.bitmap.proofs.Laws.{bits_same}
-
-pub map_counting_append : {X : Type 0} (f : ℕ → X) (a m n : ℕ) → map f (range_with_len a (m + n)) ≡ map f (range_with_len a m) ++ map f (range_with_len (a + m) n)
-map_counting_append f a zero n = ap (λ t. map f (range_with_len a t)) (zero-add n) ∙ ap (λ t. map f (range_with_len t n)) (sym (add-zero a))
-map_counting_append f a (suc m) n =
-    let p : suc m + n ≡ suc (m + n) = omega arith in
-    let q : a + 1 + m ≡ a + suc m = omega arith in
-    ap (λ t. map f (range_with_len a t)) p ∙ ap (λ t. f a ∷ t) (map_counting_append f (a + 1) m n ∙ ap (λ t. map f (range_with_len (a + 1) m) ++ map f (range_with_len t n)) q)
-
--- parts that agree one by one
-pub part_same : (a b n : ℕ) (bs cs : List ℕ) → ((i : ℕ) → i < n → bit_at bs (a + i) ≡ bit_at cs (b + i)) → part a n bs ≡ part b n cs
-part_same a b n bs cs e = same_lists _ _ (length-map-range_with_len (bit_at bs) a n ∙ sym (length-map-range_with_len (bit_at cs) b n)) (λ k d h.
-    let l : k < n = subst (λ t. k < t) (length-map-range_with_len (bit_at bs) a n) h in
-    get_or-map-range_with_len (bit_at bs) a n k (a + k) d l refl ∙ e k l ∙ sym (get_or-map-range_with_len (bit_at cs) b n k (b + k) d l refl))
+use Rattle.bitmap.proofs.Runs.{map_counting_append, runs_same}
 
 pub bits_byte : (bs : List ℕ) (n b : ℕ) → n % 8 ≡ 0 → n / 8 < length bs → bits (n + 8) (set bs (n / 8) b) ≡ bits n bs ++ bits 8 (b ∷ [])
 bits_byte bs n b z w =
@@ -25,7 +11,7 @@ bits_byte bs n b z w =
     ∙ ap (λ t. t ++ part (0 + n) 8 (set bs (n / 8) b)) (bits_same n (set bs (n / 8) b) bs (λ i h.
     let ne : i / 8 ≢ n / 8 = λ e. omega arith in
     ap (λ t. eqb (t / 2 ^ (i % 8) % 2) 1) (get_or-set_other bs (n / 8) (i / 8) b 0 ne)))
-    ∙ ap (λ t. bits n bs ++ t) (part_same (0 + n) 0 8 (set bs (n / 8) b) (b ∷ []) (λ i h.
+    ∙ ap (λ t. bits n bs ++ t) (runs_same (bit_at (set bs (n / 8) b)) (bit_at (b ∷ [])) (0 + n) 0 8 (λ i h.
     let p : (0 + n + i) / 8 ≡ n / 8 = omega arith in
     let q : (0 + n + i) % 8 ≡ (0 + i) % 8 = omega arith in
     let r : 0 ≡ (0 + i) / 8 = omega arith in
@@ -33,8 +19,3 @@ bits_byte bs n b z w =
     ∙ ap (λ t. eqb (t / 2 ^ ((0 + n + i) % 8) % 2) 1) (get_or-set_same bs (n / 8) b 0 w)
     ∙ ap (λ t. eqb (b / 2 ^ t % 2) 1) q
     ∙ ap (λ t. eqb (get_or (b ∷ []) t 0 / 2 ^ ((0 + i) % 8) % 2) 1) r))
-
--- eight equal bits are a byte of 255 or 0
-pub eight : (v : Bool) → bits 8 (cond v 255 0 ∷ []) ≡ replicate 8 v
-eight true = refl
-eight false = refl

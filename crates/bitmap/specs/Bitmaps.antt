@@ -10,6 +10,10 @@ bit_at bytes i = slice_index bytes (i / 8) / 2 ^ (i % 8) % 2 == 1
 abbrev pub bits : ℕ → List ℕ → List Bool
 bits n bytes = map (bit_at bytes) (range_with_len 0 n)
 
+-- the bits from bit a up to bit e, in order, where bit i is f i
+abbrev pub bits_between : (ℕ → Bool) → ℕ → ℕ → List Bool
+bits_between f a e = map f (range_with_len a (e - a))
+
 -- a bitmap may begin at any bit: the n bits from bit offset on, in order
 abbrev pub part : ℕ → ℕ → List ℕ → List Bool
 part offset n bytes = map (bit_at bytes) (range_with_len offset n)

@@ -1,3 +1,4 @@
+pub mod Appends
 pub mod Bitmaps
 pub mod Left
 pub mod Refusals

@@ -2,4 +2,5 @@
 #![tactic(auto)]
 
 pub mod mutable;
+mod source;
 pub mod utils;

@@ -1,17 +1,14 @@
 ghost use Rattle.std.specs.Prelude.{◌≡◌, ◌+◌, ◌-◌, ◌*◌, ◌/◌, ◌%◌, ◌^◌, ◌<◌, ◌≤◌, [], ◌∷◌, length, if◌then◌else◌, Some, None, bit_or, nat_le};
 ghost use Rattle.std.specs.Option.{option_map};
 ghost use Rattle.bitmap.specs.Bitmaps.{bits, bit_at, part, capacity};
-ghost use Rattle.bitmap.specs.Left.{left, first, rest};
+ghost use Rattle.std.specs.Iterator.{YieldsFirst, item_count};
+ghost use Rattle.bitmap.specs.Left.{left};
 
 // Bit i of some bytes. Past the end there are no bits, and the answer is false.
 pub fn get_bit(bytes: &[u8], i: usize) -> bool
     ensures { result ≡ bit_at bytes.now i }
 {
-    if i / 8 < bytes.len() {
-        bit_of(bytes, i)
-    } else {
-        false
-    }
+    i / 8 < bytes.len() && bit_of(bytes, i)
 }
 
 // Bit i of some bytes that have it: no test, for loops whose bounds are known.
@@ -39,13 +36,6 @@ pub(crate) fn with_bit(byte: u8, j: usize, value: bool) -> u8
     if value { low | (1u8 << j) } else { low }
 }
 
-// Eight equal bits.
-pub(crate) fn byte_of(value: bool) -> u8
-    ensures { result ≡ (if value then 255 else 0) }
-{
-    if value { 255 } else { 0 }
-}
-
 // The bits of `current` from bit s on, and above them the lowest s bits of `next`.
 fn merge_reversed(current: u8, next: u8, s: usize) -> u8
     requires s_nonzero { 0 < s }
@@ -68,6 +58,20 @@ pub(crate) fn byte_at(bytes: &[u8], p: usize) -> u8
     merge_reversed(bytes[k], bytes[k + 1], s)
 }
 
+// Whether n more fit beside the `used` ones. The sum is not formed, since it may pass what a usize can hold.
+pub fn has_room(used: usize, n: usize, room: usize) -> bool
+    ensures { result ≡ nat_le (used + n) room }
+{
+    used <= room && n <= room - used
+}
+
+// How many bits some bytes have room for, as far as a usize can count them.
+pub(crate) fn capacity_of(bytes: &[u8]) -> usize
+    ensures { result ≡ capacity (length bytes.now) }
+{
+    bytes.len().saturating_mul(8)
+}
+
 // Some bits of borrowed bytes, one after another.
 #[derive(Clone, Copy)]
 pub struct BitmapIter<'a> {
@@ -81,8 +85,7 @@ impl<'a> BitmapIter<'a> {
     pub fn new(bytes: &'a [u8], offset: usize, n: usize) -> Option<BitmapIter<'a>>
         ensures { option_map left result ≡ (if nat_le (offset + n) (capacity (length bytes.now)) then Some (part offset n bytes.now) else None) }
     {
-        let held = bytes.len().saturating_mul(8);
-        if offset > held || n > held - offset {
+        if !has_room(offset, n, capacity_of(bytes)) {
             return None;
         }
         Some(BitmapIter {
@@ -91,24 +94,33 @@ impl<'a> BitmapIter<'a> {
             end: offset + n,
         })
     }
+}
 
-    // How many bits are left.
-    pub fn len(&self) -> usize
-        ensures { result ≡ length (left self.now) }
-    {
-        self.end.saturating_sub(self.index)
-    }
+impl<'a> Iterator for BitmapIter<'a> {
+    type Item = bool;
 
-    // The next bit, or None after the last.
-    pub fn next(&mut self) -> Option<bool>
-        ensures given { result ≡ first (left self.old) }
-        ensures after { left self.new ≡ rest (left self.old) }
-    {
+    ghost next_gives = { YieldsFirst left };
+
+    ghost remaining = { item_count left };
+
+    fn next(&mut self) -> Option<bool> {
         if self.index >= self.end {
             return None;
         }
         let i = self.index;
         self.index = i + 1;
         Some(get_bit(self.bytes, i))
+    }
+
+    fn size_hint(&self) -> (usize, Option<usize>) {
+        let n = self.len();
+        (n, Some(n))
+    }
+}
+
+impl<'a> ExactSizeIterator for BitmapIter<'a> {
+    #[tactic(auto, using(crate::proofs::Laws::length_part))]
+    fn len(&self) -> usize {
+        self.end.saturating_sub(self.index)
     }
 }

@@ -77,13 +77,12 @@ fn refusals_at_the_edge(rt: HostRuntime) {
 fn iterator(rt: HostRuntime) -> Result<(), Fail> {
     for offset in 0..=20 {
         for n in 0..=40 {
-            let Some(mut bits) = BitmapIter::new(&SOURCE, offset, n) else {
+            let Some(bits) = BitmapIter::new(&SOURCE, offset, n) else {
                 return Err(Fail::new("the range lies in the bytes"));
             };
-            for i in 0..n {
-                assert_eq!(rt; bits.next(), Some(get_bit(&SOURCE, offset + i)));
-            }
-            assert_eq!(rt; bits.next(), None);
+            assert_eq!(rt; bits.len(), n);
+            let single = (offset..offset + n).map(|i| get_bit(&SOURCE, i));
+            assert!(rt; bits.eq(single));
         }
     }
     assert!(rt; BitmapIter::new(&SOURCE, 90, 7).is_none());

@@ -1,4 +1,5 @@
 pub mod Rows
+pub mod Flags
 pub mod Places
 pub mod Rooms
 pub mod Marks

@@ -1,36 +1,17 @@
 -- Rows of bytes by their offsets: one row more, the bytes that rows take, and where they are seen.
-use Rattle.std.proofs.Common.{◌≡◌, ℕ, ◌+◌, ◌-◌, ◌^◌, ◌<◌, ◌≤◌, Bool, true, false, cond, ◌&&◌, leb, ◌≢◌, List, [], ◌∷◌, ◌++◌, map, length, get_or, take, drop, set, ℤ, pos, Some, sym, refl, ap, ◌∙◌, subst, ⊎_elim, zero-add, arith, length-append, w32, to_z, of_z}
+use Rattle.std.proofs.Common.{◌≡◌, ℕ, ◌+◌, ◌-◌, ◌^◌, ◌<◌, ◌≤◌, Bool, true, false, cond, ◌&&◌, leb, ltb, ◌≢◌, List, [], ◌∷◌, ◌++◌, map, length, get_or, take, drop, set, ℤ, pos, Some, None, sym, refl, ap, ◌∙◌, ⊎_elim, zero-add, arith, length-append, w32, to_z, of_z}
 use Rattle.std.specs.List.{range_with_len}
+use Rattle.std.specs.Option.{option_map}
 use Rattle.std.proofs.lemmas.List.FromFn.{map-range_with_len_more, length-map-range_with_len, get_or-map-range_with_len, take-map-range_with_len}
-use Rattle.std.proofs.lemmas.List.{drop-take, take-take, take_at, drop_at, length-take-le, get_or-set_same, get_or-set_other, same_lists}
+use Rattle.std.proofs.lemmas.List.{drop-take, take-take, take_at, drop_at, length-take-le, get_or-set_same, get_or-set_other}
 use Rattle.std.proofs.lemmas.Int.{to_z_pos}
-use Rattle.std.proofs.lemmas.Bool.{cases_eq}
-use Rattle.values.specs.Values.{Value, bytes, fits, joined, weights, seen_as, seen_at, a_place}
-use Rattle.sinks.specs.Offsets.{place, mark, cut, row, string, strings, Signed, Rising, row_room, byte_room, of_offsets}
+use Rattle.std.proofs.lemmas.Bool.{cases_lt, lt-ltb, le-ltb}
+use Rattle.bitmap.proofs.Runs.{counted_same}
+use Rattle.values.specs.Values.{Value, bytes, fits, joined, weights, Seen, seen_as, seen_at, a_place}
+use Rattle.sinks.specs.Offsets.{place, mark, cut, row, string, strings, row_room, byte_room, of_offsets}
 use Rattle.sinks.specs.Fits.{length_row, spans}
 use Rattle.sinks.specs.declared.binary.Binary.{Binary}
-use Rattle.sinks.proofs.Rows.{weights_append, seen_within}
-
--- memory as long as before, and the same memory
-pub same_room : {m m' n n' : ℕ} → m ≡ m' → n ≡ n' → of_offsets m n ≡ of_offsets m' n'
-same_room {m} {m'} {n} {n'} p q = ap (λ t. of_offsets t n) p ∙ ap (of_offsets m') q
-
-pub same_home : {m m' n n' : ℕ} → m ≡ m' → n ≡ n' → m ∷ (n ∷ []) ≡ m' ∷ (n' ∷ [])
-same_home {m} {m'} {n} {n'} p q = ap (λ t. t ∷ (n ∷ [])) p ∙ ap (λ t. m' ∷ (t ∷ [])) q
-
--- the first offset alone
-pub start_first : (xs : List ℤ) → get_or (set xs 0 (pos 0)) 0 (pos 0) ≡ pos 0
-start_first [] = refl
-start_first (x ∷ xs) = refl
-
-pub start_none : (xs : List ℤ) → length xs ≤ 0 → xs ≡ set xs 0 (pos 0)
-start_none [] h = refl
-start_none (x ∷ xs) h = absurd (omega arith)
-
-pub start_signed : (xs : List ℤ) → get_or xs 0 (pos 0) ≡ pos 0 → Signed 0 xs
-start_signed xs e i h =
-    let z : 0 ≡ i = omega arith in
-    subst (λ t. get_or xs t (pos 0) ≡ pos (mark xs t)) z (e ∙ ap (λ t. pos (place t)) (sym e))
+use Rattle.sinks.proofs.Rows.{weights_append, seen_past, seen_within}
 
 -- a place below 2 ^ 31 as 32 bits, and back
 pub as_offset : (x : ℤ) (m : ℕ) → x ≡ pos m → m < 2 ^ 31 → to_z w32 (of_z w32 x) ≡ pos m
@@ -45,11 +26,6 @@ cut_front text a n u h =
     let p : a + (u - a) ≡ u = omega arith in
     let q : n ≤ u - a = omega arith in
     ap (λ t. cut (take t text) a n) (sym p) ∙ ap (take n) (drop-take a (u - a) text) ∙ take-take n (u - a) (drop a text) q
-
-rows_same : (f g : ℕ → Value) (n : ℕ) → ((i : ℕ) → i < n → f i ≡ g i) → map f (range_with_len 0 n) ≡ map g (range_with_len 0 n)
-rows_same f g n e = same_lists _ _ (length-map-range_with_len f 0 n ∙ sym (length-map-range_with_len g 0 n)) (λ k d h.
-    let l : k < n = subst (λ t. k < t) (length-map-range_with_len f 0 n) h in
-    get_or-map-range_with_len f 0 n k k d l (zero-add k) ∙ e k l ∙ sym (get_or-map-range_with_len g 0 n k k d l (zero-add k)))
 
 -- a sink s, and one row more, of k bytes: x is its offset
 module _ (s : Binary) (k : ℕ) (x : ℤ) (is : x ≡ pos (s.used + k)) (room : s.rows + 1 < length s.offsets.now) where
@@ -71,28 +47,17 @@ module _ (s : Binary) (k : ℕ) (x : ℤ) (is : x ≡ pos (s.used + k)) (room : 
   mark_new : mark more (s.rows + 1) ≡ s.used + k
   mark_new = ap place last_pushed
 
-  pub first_pushed : get_or more 0 (pos 0) ≡ pos 0
-  first_pushed = let ne : 0 ≢ s.rows + 1 = λ e. omega arith in get_or-set_other offs (s.rows + 1) 0 x (pos 0) ne ∙ s.first
-
-  pub signed_pushed : Signed (s.rows + 1) more
-  signed_pushed i h = ⊎_elim
-      (λ e. subst (λ t. get_or more t (pos 0) ≡ pos (mark more t)) (sym e) (last_pushed ∙ ap pos (sym mark_new)))
-      (λ ne. get_or-set_other offs (s.rows + 1) i x (pos 0) ne ∙ s.signed i (omega (arith, ne)) ∙ ap pos (sym (mark_old i (omega (arith, ne)))))
-      (cases_eq i (s.rows + 1))
-
-  pub rising_pushed : Rising (s.rows + 1) more
-  rising_pushed i h = ⊎_elim
-      (λ e. subst (λ t. mark more t ≤ mark more (t + 1)) (sym e) (omega (arith, mark_old s.rows (omega arith), mark_last, mark_new)))
-      (λ ne. omega (arith, ne, s.rising i (omega (arith, ne)), mark_old i (omega (arith, ne)), mark_old (i + 1) (omega (arith, ne))))
-      (cases_eq i s.rows)
-
   pub strings_pushed : (text : List ℕ) → strings (s.rows + 1) more text ≡ strings s.rows offs text ++ string text s.used k ∷ []
   strings_pushed text =
       let d : s.used + k - s.used ≡ k = omega arith in
       map-range_with_len_more (λ i. bytes (row more text i)) 0 s.rows s.rows (zero-add s.rows)
-      ∙ ap (λ t. t ++ bytes (row more text s.rows) ∷ []) (rows_same _ (λ i. bytes (row offs text i)) s.rows (λ i h.
+      ∙ ap (λ t. t ++ bytes (row more text s.rows) ∷ []) (counted_same _ (λ i. bytes (row offs text i)) s.rows (λ i h.
       ap (λ t. string text t (mark more (i + 1) - t)) (mark_old i (omega arith)) ∙ ap (λ t. string text (mark offs i) (t - mark offs i)) (mark_old (i + 1) (omega arith))))
       ∙ ap (λ t. strings s.rows offs text ++ t ∷ []) (ap (λ t. string text t (mark more (s.rows + 1) - t)) (mark_old s.rows (omega arith) ∙ mark_last) ∙ ap (λ t. string text s.used (t - s.used)) mark_new ∙ ap (string text s.used) d)
+
+-- what is seen of the bytes from a up to e
+abbrev pub place_of : ℕ × ℕ → Seen
+place_of p = a_place p.0 (p.1 - p.0)
 
 -- a sink s: its rows and their bytes
 module _ (s : Binary) where
@@ -128,18 +93,28 @@ module _ (s : Binary) where
       ∙ ap (λ p. Some (a_place p (length (row s.offsets.now s.bytes.now i)))) at
       ∙ ap (λ n. Some (a_place (mark s.offsets.now i) n)) long)
 
-  -- what an append of k rows of w bytes says, as what a sink says
-  pub strings_grown : (k w : ℕ) (vs zs : List Value) (ok : Bool) → length vs ≡ k → weights vs ≡ w → ok ≡ (leb (s.rows + k) (row_room (length s.offsets.now)) && leb (s.used + w) (byte_room (length s.bytes.now))) → zs ≡ cond ok (all ++ vs) all → (ok ≡ fits (of_offsets (length s.offsets.now) (length s.bytes.now)) (all ++ vs)) × (zs ≡ joined (of_offsets (length s.offsets.now) (length s.bytes.now)) all vs)
-  strings_grown k w vs zs ok lk lw a e =
+  -- what is seen at the bounds of row i, if there is one
+  pub seen_bounds : (i : ℕ) → option_map place_of (cond (ltb i s.rows) (Some (mark s.offsets.now i, mark s.offsets.now (i + 1))) None) ≡ seen_at 0 all i
+  seen_bounds i = ⊎_elim
+      (λ h. ap (λ t. option_map place_of (cond t (Some (mark s.offsets.now i, mark s.offsets.now (i + 1))) None)) (lt-ltb i s.rows h) ∙ seen_row i h)
+      (λ h. ap (λ t. option_map place_of (cond t (Some (mark s.offsets.now i, mark s.offsets.now (i + 1))) None)) (le-ltb i s.rows h) ∙ sym (seen_past 0 all i (rw length_all h)))
+      (cases_lt i s.rows)
+
+  -- whether k rows of w bytes fit after those that are there
+  pub strings_fits : (k w : ℕ) (vs : List Value) (ok : Bool) → length vs ≡ k → weights vs ≡ w → ok ≡ (leb (s.rows + k) (row_room (length s.offsets.now)) && leb (s.used + w) (byte_room (length s.bytes.now))) → ok ≡ fits (of_offsets (length s.offsets.now) (length s.bytes.now)) (all ++ vs)
+  strings_fits k w vs ok lk lw a =
       let r = of_offsets (length s.offsets.now) (length s.bytes.now) in
       let rows : s.rows + k ≡ length (all ++ vs) = sym (length-append all vs ∙ ap (λ t. t + length vs) length_all ∙ ap (λ t. s.rows + t) lk) in
       let used : s.used + w ≡ weights (all ++ vs) = sym (weights_append all vs ∙ ap (λ t. t + weights vs) weights_all ∙ ap (λ t. s.used + t) lw) in
-      let f : ok ≡ fits r (all ++ vs) = a ∙ and_is (leb (s.rows + k) r.rows) (leb (s.used + w) r.bytes) ∙ ap (λ t. cond (leb t r.rows) (leb (s.used + w) r.bytes) false) rows ∙ ap (λ t. cond (leb (length (all ++ vs)) r.rows) (leb t r.bytes) false) used in
-      (f, e ∙ ap (λ t. cond t (all ++ vs) all) f)
+      a ∙ and_is (leb (s.rows + k) r.rows) (leb (s.used + w) r.bytes) ∙ ap (λ t. cond (leb t r.rows) (leb (s.used + w) r.bytes) false) rows ∙ ap (λ t. cond (leb (length (all ++ vs)) r.rows) (leb t r.bytes) false) used
     where
       and_is : (a b : Bool) → (a && b) ≡ cond a b false
       and_is true b = refl
       and_is false b = refl
+
+  -- and what is there then
+  pub strings_joined : (k w : ℕ) (vs zs : List Value) (ok : Bool) → length vs ≡ k → weights vs ≡ w → ok ≡ (leb (s.rows + k) (row_room (length s.offsets.now)) && leb (s.used + w) (byte_room (length s.bytes.now))) → zs ≡ cond ok (all ++ vs) all → zs ≡ joined (of_offsets (length s.offsets.now) (length s.bytes.now)) all vs
+  strings_joined k w vs zs ok lk lw a e = e ∙ ap (λ t. cond t (all ++ vs) all) (strings_fits k w vs ok lk lw a)
 
   -- bytes v copied after those of the rows make one row more, and leave the others
   pub strings_more : (text v : List ℕ) → take (s.used + length v) text ≡ take s.used s.bytes.now ++ v → strings s.rows s.offsets.now text ++ string text s.used (length v) ∷ [] ≡ all ++ bytes v ∷ []
@@ -149,7 +124,7 @@ module _ (s : Binary) where
       let h : s.used ≤ s.used + length v = omega arith in
       let same : take s.used text ≡ old = sym (take-take s.used (s.used + length v) text h) ∙ ap (take s.used) copied ∙ take_at old v s.used n in
       let new : cut text s.used (length v) ≡ v = sym (drop-take s.used (length v) text) ∙ ap (drop s.used) copied ∙ drop_at old v s.used n in
-      ap (λ t. t ++ string text s.used (length v) ∷ []) (rows_same _ (λ i. bytes (row s.offsets.now s.bytes.now i)) s.rows (λ i l.
+      ap (λ t. t ++ string text s.used (length v) ∷ []) (counted_same _ (λ i. bytes (row s.offsets.now s.bytes.now i)) s.rows (λ i l.
       let up = s.rising i l in
       let below = mark_below (i + 1) (omega arith) in
       ap bytes (sym (cut_front text (mark s.offsets.now i) _ s.used (omega arith)) ∙ ap (λ t. cut t (mark s.offsets.now i) (mark s.offsets.now (i + 1) - mark s.offsets.now i)) same ∙ cut_front s.bytes.now (mark s.offsets.now i) _ s.used (omega arith))))

@@ -1,10 +1,12 @@
-ghost use Rattle.std.specs.Prelude.{◌≡◌, ◌+◌, ◌<◌, ◌≤◌, ◌&&◌, [], ◌∷◌, ◌++◌, length, take, replicate, pos, MatchOption, nat_le, slice_index_or, slice_set, refl};
+#![tactic(auto, using(crate::proofs::Marks::length_all, crate::proofs::Marks::weights_all))]
+
+ghost use Rattle.std.specs.Prelude.{◌≡◌, ◌+◌, ◌<◌, ◌≤◌, ◌&&◌, [], ◌∷◌, ◌++◌, length, take, replicate, pos, MatchOption, IfSome, Some, None, if◌then◌else◌, nat_lt, nat_le, slice_index_or, slice_set, refl};
 ghost use Rattle.sinks.specs.Offsets.{mark, row, string, strings, no_bytes, Signed, Rising, row_room, byte_room, of_offsets};
 ghost use Rattle.sinks.specs.Fits.{strings_fit};
 
 use crate::offset::{offset_of, reached};
 use crate::pushable::{Full, Pushable, Sink};
-use crate::space::has_room;
+use bitmap::utils::has_room;
 use values::kinds::Place;
 
 // Rows of bytes in lent memory: the first `used` bytes are those of the rows, one row after the other, and the first
@@ -45,24 +47,20 @@ impl<'a> Binary<'a> {
     pub fn get_bytes(&self, i: usize) -> Option<&[u8]>
         ensures { MatchOption result (self.now.rows ≤ i) (λ b. (i < self.now.rows) × (b.now ≡ row self.now.offsets.now self.now.bytes.now i)) }
     {
-        if i < self.rows {
-            let (at, end) = self.bounds(i);
-            let all: &[u8] = self.bytes;
-            Some(&all[at..end])
-        } else {
-            None
-        }
+        let (at, end) = self.bounds(i)?;
+        let all: &[u8] = self.bytes;
+        Some(&all[at..end])
     }
 
-    // Where row i begins, and where it ends.
-    fn bounds(&self, i: usize) -> (usize, usize)
-        requires { i < self.now.rows }
-        ensures begin { result.0 ≡ mark self.now.offsets.now i }
-        ensures end { result.1 ≡ mark self.now.offsets.now (i + 1) }
-        ensures order { (result.0 ≤ result.1) × (result.1 ≤ self.now.used) }
+    // Where row i begins and where it ends, if there is one.
+    fn bounds(&self, i: usize) -> Option<(usize, usize)>
+        ensures row { result ≡ (if nat_lt i self.now.rows then Some (mark self.now.offsets.now i, mark self.now.offsets.now (i + 1)) else None) }
+        ensures order { IfSome result (λ r. (r.0 ≤ r.1) × (r.1 ≤ self.now.used)) }
     {
-        let offsets: &[i32] = self.offsets;
-        (offsets[i] as usize, offsets[i + 1] as usize)
+        if i >= self.rows {
+            return None;
+        }
+        Some((self.offsets[i] as usize, self.offsets[i + 1] as usize))
     }
 
     // Whether there is room for k more rows, of n bytes together.
@@ -81,10 +79,7 @@ impl<'a> Binary<'a> {
         ensures room { length self.new.bytes.now ≡ length self.old.bytes.now }
         ensures home { self.new.bytes.ghost_name ≡ self.old.bytes.ghost_name }
     {
-        let used = self.used;
-        for i in 0..v.len() {
-            self.bytes[used + i] = v[i];
-        }
+        self.bytes[self.used..self.used + v.len()].copy_from_slice(v);
     }
 
     // Ends a row after n more bytes, which stand there already.
@@ -122,8 +117,8 @@ impl<'a> Binary<'a> {
 fn start(offsets: &mut [i32])
     ensures { offsets.new ≡ slice_set offsets.old 0 (pos 0) }
 {
-    if offsets.len() > 0 {
-        offsets[0] = 0;
+    if let Some(first) = offsets.first_mut() {
+        *first = 0;
     }
 }
 
@@ -159,19 +154,11 @@ impl<'a> Sink for Binary<'a> {
     }
 
     fn get(&mut self, i: usize) -> Option<Place> {
-        if i < self.rows {
-            let (at, end) = self.bounds(i);
-            Some(Place {
-                at,
-                length: end - at,
-            })
-        } else {
-            None
-        }
-    }
-
-    fn push_null(&mut self) -> Result<(), Full> {
-        self.push_nulls(1)
+        let (at, end) = self.bounds(i)?;
+        Some(Place {
+            at,
+            length: end - at,
+        })
     }
 
     fn push_nulls(&mut self, n: usize) -> Result<(), Full> {

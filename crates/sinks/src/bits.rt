@@ -1,21 +1,13 @@
-ghost use Rattle.std.specs.Prelude.{◌≡◌, false, [], ◌∷◌, length, is_ok, refl};
+#![tactic(auto, using(bitmap::proofs::Laws::length_bits, crate::proofs::Flags::length_flags, crate::proofs::Flags::weights_flags))]
+
+ghost use Rattle.std.specs.Prelude.{false, [], ◌∷◌, length, refl};
 ghost use Rattle.bitmap.specs.Bitmaps.{bits, capacity};
 ghost use Rattle.values.specs.Values.{flag};
 ghost use Rattle.sinks.specs.Fixed.{of_rows, flags};
 ghost use Rattle.sinks.specs.Fits.{flags_fit};
 
 use crate::pushable::{Full, Pushable, Sink, Validity};
-use bitmap::mutable::{Full as NoRoom, MutableBitmap, Refusal};
-
-// What a bitmap answers, as a sink's answer.
-fn told(r: Result<(), NoRoom>) -> Result<(), Full>
-    ensures { is_ok result ≡ is_ok r }
-{
-    match r {
-        Ok(_) => Ok(()),
-        Err(_) => Err(Full),
-    }
-}
+use bitmap::mutable::{MutableBitmap, Refusal};
 
 impl<'a> Validity for MutableBitmap<'a> {
     ghost bits = { λ s. bits s.used s.buffer.now };
@@ -41,7 +33,7 @@ impl<'a> Validity for MutableBitmap<'a> {
     }
 
     fn extend_constant(&mut self, n: usize, value: bool) -> Result<(), Full> {
-        told(MutableBitmap::extend_constant(self, n, value))
+        MutableBitmap::extend_constant(self, n, value)
     }
 
     fn extend_from_slice(&mut self, bytes: &[u8], offset: usize, n: usize) -> Result<(), Refusal> {
@@ -83,17 +75,13 @@ impl<'a> Sink for MutableBitmap<'a> {
         MutableBitmap::get(self, i)
     }
 
-    fn push_null(&mut self) -> Result<(), Full> {
-        self.push_nulls(1)
-    }
-
     fn push_nulls(&mut self, n: usize) -> Result<(), Full> {
-        told(MutableBitmap::extend_constant(self, n, false))
+        MutableBitmap::extend_constant(self, n, false)
     }
 }
 
 impl<'a> Pushable<bool> for MutableBitmap<'a> {
     fn push(&mut self, v: bool) -> Result<(), Full> {
-        told(MutableBitmap::push(self, v))
+        MutableBitmap::push(self, v)
     }
 }

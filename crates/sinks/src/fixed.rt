@@ -1,10 +1,12 @@
+#![tactic(auto, using(crate::proofs::Rows::weights_numbers))]
+
 ghost use Rattle.std.specs.Prelude.{◌≡◌, ◌+◌, ◌≤◌, [], ◌∷◌, ◌++◌, length, take, replicate, pos, nat_le, refl};
 ghost use Rattle.values.specs.Values.{number};
 ghost use Rattle.sinks.specs.Fixed.{of_rows, numbers};
 ghost use Rattle.sinks.specs.Fits.{numbers_fit};
 
 use crate::pushable::{Full, Pushable, Sink};
-use crate::space::has_room;
+use bitmap::utils::has_room;
 use values::Element;
 
 // Elements in lent memory, the first `used` of it.
@@ -25,11 +27,18 @@ impl<'a, T: Element> Fixed<'a, T> {
         Fixed { memory, used: 0 }
     }
 
-    // Whether there is room for one more.
-    fn has_place(&self) -> bool
-        ensures { result ≡ nat_le (self.now.used + 1) (length self.now.memory.now) }
+    // The elements so far.
+    fn elements(&self) -> &[T]
+        ensures { result.now ≡ take self.now.used self.now.memory.now }
     {
-        self.used < self.memory.len()
+        &self.memory[..self.used]
+    }
+
+    // Whether there is room for n more.
+    fn has_space(&self, n: usize) -> bool
+        ensures { result ≡ nat_le (self.now.used + n) (length self.now.memory.now) }
+    {
+        has_room(self.used, n, self.memory.len())
     }
 
     // Appends x n times, where there is room for that.
@@ -39,11 +48,18 @@ impl<'a, T: Element> Fixed<'a, T> {
         ensures room { length self.new.memory.now ≡ length self.old.memory.now }
         ensures home { self.new.memory.ghost_name ≡ self.old.memory.ghost_name }
     {
-        let used = self.used;
-        for i in 0..n {
-            self.memory[used + i] = x;
-        }
-        self.used = used + n;
+        let end = self.used + n;
+        fill(&mut self.memory[self.used..end], x);
+        self.used = end;
+    }
+}
+
+// The slice's own `fill` clones, and an element is known to be copied only.
+fn fill<T: Copy>(places: &mut [T], x: T)
+    ensures { places.new ≡ replicate (length places.old) x }
+{
+    for place in places {
+        *place = x;
     }
 }
 
@@ -77,21 +93,13 @@ impl<'a, T: Element> Sink for Fixed<'a, T> {
     }
 
     fn get(&mut self, i: usize) -> Option<T> {
-        if i < self.used {
-            Some(self.memory[i])
-        } else {
-            None
-        }
-    }
-
-    fn push_null(&mut self) -> Result<(), Full> {
-        self.push_nulls(1)
+        self.elements().get(i).copied()
     }
 
     // A null has its place too, and 0 stands there.
     fn push_nulls(&mut self, n: usize) -> Result<(), Full> {
         let zero = T::zero();
-        if !has_room(self.used, n, self.memory.len()) {
+        if !self.has_space(n) {
             return Err(Full);
         }
         self.fill(n, zero);
@@ -101,7 +109,7 @@ impl<'a, T: Element> Sink for Fixed<'a, T> {
 
 impl<'a, T: Element> Pushable<T> for Fixed<'a, T> {
     fn push(&mut self, v: T) -> Result<(), Full> {
-        if !self.has_place() {
+        if !self.has_space(1) {
             return Err(Full);
         }
         self.memory[self.used] = v;

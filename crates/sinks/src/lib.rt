@@ -6,4 +6,3 @@ pub mod bits;
 pub mod fixed;
 mod offset;
 pub mod pushable;
-mod space;

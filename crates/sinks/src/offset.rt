@@ -3,7 +3,7 @@ ghost use Rattle.std.specs.Prelude.{◌≡◌, pos};
 ghost use Rattle.sinks.specs.Offsets.{byte_room};
 
 // The largest offset.
-const LARGEST: usize = 0x7fff_ffff;
+const LARGEST: usize = i32::MAX as usize;
 
 // How many of n bytes offsets can reach.
 pub(crate) fn reached(n: usize) -> usize

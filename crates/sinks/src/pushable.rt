@@ -4,12 +4,9 @@ ghost use Rattle.bitmap.specs.Bitmaps.{part, capacity};
 ghost use Rattle.bitmap.specs.Refusals.{sliced};
 ghost use Rattle.values.specs.Values.{Value, Room, fits, joined, seen_at, bit_at, weight, weights};
 
+pub use bitmap::mutable::Full;
 use bitmap::mutable::Refusal;
 use values::{Meant, Valued};
-
-// There is no room.
-#[derive(Clone, Copy, Debug, PartialEq)]
-pub struct Full;
 
 // A sink means a list of values, and has room for some rows and some bytes. It refuses exactly when its list would
 // outgrow its room, and then nothing is changed, to the last byte of its memory.
@@ -57,7 +54,10 @@ pub trait Sink {
         ensures items { items self.new ≡ joined (room self.old) (items self.old) ((room self.old).blank ∷ []) }
         ensures room { room self.new ≡ room self.old }
         ensures home { home self.new ≡ home self.old }
-        ensures kept { is_ok result ≡ false → self.new ≡ self.old };
+        ensures kept { is_ok result ≡ false → self.new ≡ self.old }
+    {
+        self.push_nulls(1)
+    }
 
     // n stand-ins, all or none.
     fn push_nulls(&mut self, n: usize) -> Result<(), Full>

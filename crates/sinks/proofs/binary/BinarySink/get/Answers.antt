@@ -1,21 +1,10 @@
-use Rattle.std.proofs.Common.{◌-◌, Some, sym, refl, ap, ◌∙◌}
-use Rattle.values.specs.Values.{a_place}
-use Rattle.sinks.specs.Offsets.{mark}
-use Rattle.sinks.proofs.Rows.{seen_past}
-use Rattle.sinks.proofs.Marks.{length_all, seen_row}
+use Rattle.std.proofs.Common.{ap, ◌∙◌}
+use Rattle.std.specs.Option.{option_map}
+use Rattle.sinks.proofs.Marks.{place_of, seen_bounds}
 use Rattle.sinks.proofs.binary.BinarySink.get.Goals as goal
 
-pub returns-then-i-self : goal.returns-then-i-self
-returns-then-i-self c =
-    let s = c.args.self.now in
-    let i = c.args.i in
-    let e = c.bounds-at.ensures in
-    record {
-      answer =
-          ap (λ t. Some (a_place t (c.bounds-at.result.1 - t))) e.begin ∙ ap (λ t. Some (a_place (mark s.offsets.now i) (t - mark s.offsets.now i))) e.end
-          ∙ seen_row s i c.if-i-self.true;
-      same = refl;
-    }
+pub returns-in_err-at-clause-answer : goal.returns-in_err-at-clause-answer
+returns-in_err-at-clause-answer c = ap (option_map _) c.from_residual.ensures ∙ ap (option_map place_of) c.in_err-at.ensures.row ∙ seen_bounds c.args.self.now c.args.i
 
-pub returns-else-i-self : goal.returns-else-i-self
-returns-else-i-self c = record { answer = sym (seen_past 0 _ c.args.i (rw (length_all c.args.self.now) c.if-i-self.false)); same = refl }
+pub returns-clause-answer : goal.returns-clause-answer
+returns-clause-answer c = ap (option_map place_of) c.in_ok-at.ensures.row ∙ seen_bounds c.args.self.now c.args.i

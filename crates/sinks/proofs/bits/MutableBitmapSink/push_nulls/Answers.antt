@@ -1,22 +1,18 @@
-use Rattle.std.proofs.Common.{false, [], ◌∷◌, length, replicate, sym, refl, ap, ◌∙◌}
+use Rattle.std.proofs.Common.{false, replicate}
 use lib.ListN.{length-replicate}
-use Rattle.bitmap.specs.Bitmaps.{bits, capacity}
-use Rattle.bitmap.proofs.Laws.{length_bits}
 use Rattle.values.specs.Values.{flag}
-use Rattle.sinks.specs.Fixed.{of_rows}
-use Rattle.sinks.proofs.Rows.{grown, map_replicate}
+use Rattle.sinks.proofs.Flags.{flags_grown}
+use Rattle.sinks.proofs.Rows.{map_replicate}
 use Rattle.sinks.proofs.bits.MutableBitmapSink.push_nulls.Goals as goal
 
-pub returns : goal.returns
-returns c =
-    let s = c.args.self.now in
-    let e = c.extend_constant.ensures in
+pub returns-clause-answer : goal.returns-clause-answer
+returns-clause-answer c =
     let n = c.args.n in
-    let p = grown flag (λ _. refl) (capacity (length s.buffer.now)) s.used n (flag false) (bits s.used s.buffer.now) (replicate n false) _ _ _ (length_bits _ _) (length-replicate n false) (map_replicate flag n false) e.answer e.items in
-    record {
-      answer = c.told.ensures ∙ p.0;
-      items = p.1;
-      room = ap (λ t. of_rows (capacity t) (flag false)) e.room;
-      home = ap (λ t. t ∷ []) e.home;
-      kept = λ f. e.kept (sym c.told.ensures ∙ f);
-    }
+    let e = c.extend_constant.ensures in
+    (flags_grown c.extend_constant.result c.args.self.now c.extend_constant.new.self (replicate n false) e.appended e.kept n (replicate n (flag false)) (length-replicate n false) (map_replicate flag n false) e.answer).0
+
+pub returns-clause-items : goal.returns-clause-items
+returns-clause-items c =
+    let n = c.args.n in
+    let e = c.extend_constant.ensures in
+    (flags_grown c.extend_constant.result c.args.self.now c.extend_constant.new.self (replicate n false) e.appended e.kept n (replicate n (flag false)) (length-replicate n false) (map_replicate flag n false) e.answer).1

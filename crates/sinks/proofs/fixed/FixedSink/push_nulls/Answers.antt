@@ -1,27 +1,14 @@
-use Rattle.std.proofs.Common.{true, false, [], ◌∷◌, take, replicate, pos, refl, ap, rules}
+use Rattle.std.proofs.Common.{true, take, replicate}
 use lib.ListN.{length-replicate}
-use Rattle.values.specs.Values.{number}
-use Rattle.sinks.specs.Fixed.{of_rows}
 use Rattle.sinks.proofs.Rows.{numbers_grown, zeros}
 use Rattle.sinks.proofs.fixed.FixedSink.push_nulls.Goals as goal
 
-pub returns-then-not-has_room : goal.returns-then-not-has_room
-returns-then-not-has_room g c =
-    let s = c.args.self.now in
-    let m = s.memory.now in
-    let z = c.zero-zero.result in
-    let n = c.args.n in
-    let f = g.T.Element.int in
-    let p = numbers_grown f m s.used n (replicate n z) (take s.used m) _ false s.within (length-replicate n z) (zeros f n z c.zero-zero.ensures) c.if-not-has_room.ensures refl in
-    record { answer = p.0; items = p.1; room = refl; home = refl; kept = λ _. refl }
+pub returns-clause-answer : goal.returns-clause-answer
+returns-clause-answer g c =
+    let s = c.args.self.now in let t = c.fill.new.self in let n = c.args.n in let z = c.zero-zero.result in let f = g.T.Element.int in
+    (numbers_grown f s.memory.now s.used n (replicate n z) (take t.used t.memory.now) _ true s.within (length-replicate n z) (zeros f n z c.zero-zero.ensures) c.if-not-has_space.ensures c.fill.ensures.items).0
 
-pub returns : goal.returns
-returns g c =
-    let s = c.args.self.now in
-    let m = s.memory.now in
-    let z = c.zero-zero.result in
-    let n = c.args.n in
-    let f = g.T.Element.int in
-    let e = c.fill.ensures in
-    let p = numbers_grown f m s.used n (replicate n z) _ _ true s.within (length-replicate n z) (zeros f n z c.zero-zero.ensures) c.if-not-has_room.ensures e.items in
-    record { answer = p.0; items = p.1; room = ap (λ t. of_rows t (number (pos 0))) e.room; home = ap (λ t. t ∷ []) e.home; kept = search rules }
+pub returns-clause-items : goal.returns-clause-items
+returns-clause-items g c =
+    let s = c.args.self.now in let t = c.fill.new.self in let n = c.args.n in let z = c.zero-zero.result in let f = g.T.Element.int in
+    (numbers_grown f s.memory.now s.used n (replicate n z) (take t.used t.memory.now) _ true s.within (length-replicate n z) (zeros f n z c.zero-zero.ensures) c.if-not-has_space.ensures c.fill.ensures.items).1
