@@ -1,9 +1,9 @@
-ghost use Rattle.std.specs.Prelude.{◌≡◌, ℕ, ◌+◌, ◌-◌, ◌*◌, ◌/◌, ◌%◌, ◌^◌, ◌<◌, ◌≤◌, cond, length, take};
-ghost use Rattle.hybrid_rle.specs.Runs.{packed_in, repeated_in, run, run_at, runs, sound, sound_at};
-ghost use Rattle.values.specs.Little.{little};
-ghost use Rattle.hybrid_rle.specs.Borrowed.{meant};
+ghost use Rattle.std.specs.Prelude.{◌≡◌, ◌^◌, ◌<◌, ◌≤◌, false};
+ghost use Rattle.hybrid_rle.specs.Runs.{allowed, count, packed_in, repeated_in, run, run_at, runs, sound_at, step, upto};
+ghost use Rattle.hybrid_rle.specs.Borrowed.{stretch, meant, stepped, is_step};
 
 use crate::header::{Broken, read_header};
+use crate::unpack::first_number;
 
 // A run of numbers, over the bytes that it was read from.
 #[derive(Clone, Copy)]
@@ -12,31 +12,37 @@ pub enum Run<'a> {
     Repeated { value: u32, length: usize },
 }
 
-// The number that at most four bytes hold, the lowest first.
-fn little_end(bytes: &[u8]) -> u32
-    requires { length bytes.now ≤ 4 }
-    ensures { result ≡ little bytes.now }
-{
-    match bytes {
-        [] => 0,
-        [a] => *a as u32,
-        [a, b] => *a as u32 + 256 * (*b as u32),
-        [a, b, c] => *a as u32 + 256 * (*b as u32) + 65536 * (*c as u32),
-        [a, b, c, d, ..] => *a as u32
-            + 256 * (*b as u32)
-            + 65536 * (*c as u32)
-            + 16777216 * (*d as u32),
+impl Run<'_> {
+    // How many numbers a run has.
+    pub fn len(&self) -> usize
+        ensures { result ≡ count (stretch self.now) }
+    {
+        match self {
+            Run::Bitmap { length, .. } => *length,
+            Run::Repeated { length, .. } => *length,
+        }
     }
-}
 
-// The number in the first four bytes, the lowest first; bytes that are missing count as 0.
-pub fn first_number(bytes: &[u8]) -> u32
-    ensures { result ≡ little (take 4 bytes.now) }
-{
-    if bytes.len() > 4 {
-        return little_end(&bytes[0..4]);
+    // Whether no repeated number is above `top`.
+    pub fn is_allowed(&self, top: u32) -> bool
+        ensures { result ≡ allowed top (stretch self.now) }
+    {
+        match self {
+            Run::Bitmap { .. } => true,
+            Run::Repeated { value, .. } => *value <= top,
+        }
     }
-    little_end(bytes)
+
+    // The numbers of a run up to the `n`th.
+    fn up_to(self, n: usize) -> Self
+        ensures { stretch result ≡ upto n (stretch self.entry) }
+    {
+        let length = self.len().min(n);
+        match self {
+            Run::Bitmap { bytes, .. } => Run::Bitmap { bytes, length },
+            Run::Repeated { value, .. } => Run::Repeated { value, length },
+        }
+    }
 }
 
 // A run of groups of 8 packed numbers of `w` bits, and the bytes after it.
@@ -63,7 +69,7 @@ fn repeated_run<'a>(length: usize, w: u8, body: &'a [u8]) -> Result<(Run<'a>, &'
         return Err(Broken::Short);
     }
     let (number, rest) = body.split_at(size);
-    let value = little_end(number);
+    let value = first_number(number);
     Ok((Run::Repeated { value, length }, rest))
 }
 
@@ -92,6 +98,33 @@ pub fn next_run<'a>(bytes: &'a [u8], w: u8) -> Result<(Run<'a>, &'a [u8]), Broke
     read_run(bytes, w)
 }
 
+// The next `left` numbers of `w` bits of a stream of runs.
+#[derive(Clone, Copy)]
+pub struct Runs<'a> {
+    pub w: u8,
+    pub rest: &'a [u8],
+    pub left: usize,
+}
+
+impl<'a> Runs<'a> {
+    // The next run, up to the last of the numbers; none where no number is left.
+    pub fn next(&mut self) -> Result<Option<Run<'a>>, Broken>
+        ensures given { stepped result self.new ≡ step self.old.w self.old.left self.old.rest.now }
+        ensures width { self.new.w ≡ self.old.w }
+        ensures kept { is_step result ≡ false → self.new ≡ self.old }
+        ensures fits { self.old.left < 2 ^ 64 }
+    {
+        if self.left == 0 {
+            return Ok(None);
+        }
+        let (run, rest) = next_run(self.rest, self.w)?;
+        let run = run.up_to(self.left);
+        self.left -= run.len();
+        self.rest = rest;
+        Ok(Some(run))
+    }
+}
+
 // Whether whole runs give `n` numbers or more, none of the repeated ones above `top`.
 pub fn check(bytes: &[u8], w: u8, top: u32, n: usize) -> Result<(), Broken>
     ensures { result ≡ sound_at w (runs w top n bytes.now) }
@@ -99,21 +132,15 @@ pub fn check(bytes: &[u8], w: u8, top: u32, n: usize) -> Result<(), Broken>
     if w > 32 {
         return Err(Broken::Wide);
     }
-    let mut rest = bytes;
-    let mut left = n;
-    while left > 0 {
-        let (run, after) = read_run(rest, w)?;
-        let length = match run {
-            Run::Bitmap { length, .. } => length,
-            Run::Repeated { value, length } => {
-                if value > top {
-                    return Err(Broken::Above);
-                }
-                length
-            }
-        };
-        left = left.saturating_sub(length);
-        rest = after;
+    let mut runs = Runs {
+        w,
+        rest: bytes,
+        left: n,
+    };
+    while let Some(run) = runs.next()? {
+        if !run.is_allowed(top) {
+            return Err(Broken::Above);
+        }
     }
     Ok(())
 }
