@@ -9,12 +9,13 @@ use Rattle.hybrid_rle.specs.Runs.{Stretch, packed, repeated, bit, fields, ahead,
 use Rattle.hybrid_rle.specs.Rows.{present, bits, rows_of, later, gives_rows, piece, beyond, taken, flat}
 use Rattle.hybrid_rle.specs.declared.header.Broken.{Broken}
 use Rattle.hybrid_rle.specs.declared.header.Broken.TheVariants.{Above}
-use Rattle.hybrid_rle.proofs.Streams.{Stepped, stepped_at, Counts, counts_by}
-use Rattle.hybrid_rle.specs.Borrowed.{stretch, stepped, is_step}
-use Rattle.hybrid_rle.specs.Held.{piece_count, rows}
+use Rattle.hybrid_rle.proofs.Streams.{Roomy, Stepped, stepped_at, Counts, counts_by}
+use Rattle.hybrid_rle.specs.Borrowed.{as_rows, stretch, stepped, is_step}
+use Rattle.hybrid_rle.specs.Held.{piece_count, rows, run_end, bytes_end}
 use Rattle.hybrid_rle.specs.declared.piece.Piece.{Piece}
-use Rattle.hybrid_rle.specs.declared.piece.Piece.TheVariants.{Bitmap, Repeated}
+use Rattle.hybrid_rle.specs.declared.piece.Piece.TheVariants as pc
 use Rattle.hybrid_rle.specs.declared.runs.Run.{Run}
+use Rattle.hybrid_rle.specs.declared.runs.Run.TheVariants.{Bitmap, Repeated}
 use Rattle.hybrid_rle.specs.declared.runs.Runs.{Runs}
 
 -- bits
@@ -56,11 +57,19 @@ module _ (n left : ℕ) (bs rest : List ℕ) (gives : gives_rows n bs ≡ true) 
       let s = split (allowed 1 r) (numbers 1 r) (runs 1 1 left rest) (sym (ap is_ok h.0) ∙ gives) in
       (ap rows_of h.0 ∙ s.0, s.1)
 
-  pub packed_on : (xs : List ℕ) (m : ℕ) → Stepped 1 1 n bs (Ok (Some (packed xs m, left, rest))) → (bits xs 0 m ∷ later left rest ≡ later n bs) × (gives_rows left rest ≡ true)
-  packed_on xs m h = let s = run_on (packed xs m) h in (sym (s.0 ∙ rw rows_packed refl), s.1)
+  pub rows_on : (r : Run) → Stepped 1 1 n bs (Ok (Some (stretch r, left, rest))) → rows (as_rows r) ∷ later left rest ≡ later n bs
+  rows_on (Bitmap xs m) h = sym ((run_on (packed xs.now m) h).0 ∙ rw rows_packed refl)
+  rows_on (Repeated v m) h = sym ((run_on (repeated v m) h).0 ∙ rw rows_repeated refl)
 
-  pub repeated_on : (v m : ℕ) → Stepped 1 1 n bs (Ok (Some (repeated v m, left, rest))) → (replicate m (eqb v 1) ∷ later left rest ≡ later n bs) × (gives_rows left rest ≡ true)
-  repeated_on v m h = let s = run_on (repeated v m) h in (sym (s.0 ∙ rw rows_repeated refl), s.1)
+-- a run lies in its bytes
+pub run_within : (r : Run) → Roomy 1 (stretch r) → run_end (Some (as_rows r)) ≤ bytes_end (Some (as_rows r))
+run_within (Bitmap xs m) h = omega arith
+run_within (Repeated v m) h = omega arith
+
+-- the rows of a run
+pub run_rows : (r : Run) → rows (as_rows r) ≡ map present (numbers 1 (stretch r))
+run_rows (Bitmap xs m) = sym (rows_packed xs.now 0 m)
+run_rows (Repeated v m) = sym (rows_repeated v m)
 
 -- a step leaves a stream that gives its rows
 pub gives_after : (res : Result (Option Run) Broken) (old new : Runs) → old.w ≡ 1 → stepped res new ≡ step old.w old.left old.rest.now → (is_step res ≡ false → new ≡ old) → gives_rows old.left old.rest.now ≡ true → gives_rows new.left new.rest.now ≡ true
@@ -70,8 +79,8 @@ gives_after (Err x) old new one e kept g = ap (λ s. gives_rows s.left s.rest.no
 
 -- a piece has as many rows as its length says
 pub length_rows : (p : Piece Bool) → length (rows p) ≡ piece_count p
-length_rows (Bitmap bs at n) = length_bits bs.now at n
-length_rows (Repeated s n) = length-replicate n s
+length_rows (pc.Bitmap bs at n) = length_bits bs.now at n
+length_rows (pc.Repeated s n) = length-replicate n s
 
 pub count_of_rows : (p q : Piece Bool) → p ≡ q → length (rows p) ≡ piece_count q
 count_of_rows p q e = length_rows p ∙ ap piece_count e

@@ -1,8 +1,10 @@
-ghost use Rattle.std.specs.Prelude.{◌≡◌, ◌^◌, ◌<◌, ◌≤◌, false};
+ghost use Rattle.std.specs.Prelude.{◌≡◌, ◌^◌, ◌<◌, ◌≤◌, false, Some};
 ghost use Rattle.hybrid_rle.specs.Runs.{allowed, count, packed_in, repeated_in, run, run_at, runs, sound_at, step, upto};
-ghost use Rattle.hybrid_rle.specs.Borrowed.{stretch, meant, stepped, is_step};
+ghost use Rattle.hybrid_rle.specs.Borrowed.{as_rows, stretch, meant, stepped, is_step};
+ghost use Rattle.hybrid_rle.specs.Held.{run_end};
 
 use crate::header::{Broken, read_header};
+use crate::piece::Piece;
 use crate::unpack::first_number;
 
 // A run of numbers, over the bytes that it was read from.
@@ -12,7 +14,7 @@ pub enum Run<'a> {
     Repeated { value: u32, length: usize },
 }
 
-impl Run<'_> {
+impl<'a> Run<'a> {
     // How many numbers a run has.
     pub fn len(&self) -> usize
         ensures { result ≡ count (stretch self.now) }
@@ -33,6 +35,25 @@ impl Run<'_> {
         }
     }
 
+    // The rows of a run of one-bit numbers: number 1 is a present row.
+    pub fn rows(self) -> Piece<'a, bool>
+        ensures piece { result ≡ as_rows self.entry }
+        ensures near { run_end (Some result) < 2 ^ 64 }
+    {
+        let length = self.len();
+        match self {
+            Run::Bitmap { bytes, .. } => Piece::Bitmap {
+                bytes,
+                offset: 0,
+                length,
+            },
+            Run::Repeated { value, .. } => Piece::Repeated {
+                value: value == 1,
+                length,
+            },
+        }
+    }
+
     // The numbers of a run up to the `n`th.
     fn up_to(self, n: usize) -> Self
         ensures { stretch result ≡ upto n (stretch self.entry) }
@@ -41,6 +62,24 @@ impl Run<'_> {
         match self {
             Run::Bitmap { bytes, .. } => Run::Bitmap { bytes, length },
             Run::Repeated { value, .. } => Run::Repeated { value, length },
+        }
+    }
+}
+
+impl<'a> From<Run<'a>> for Piece<'a, u32> {
+    ghost use Rattle.std.specs.Prelude.{◌≡◌};
+    ghost use Rattle.hybrid_rle.specs.Borrowed.{as_numbers};
+
+    ghost from_gives = { λ run piece. piece ≡ as_numbers run };
+
+    fn from(run: Run<'a>) -> Self {
+        match run {
+            Run::Bitmap { bytes, length } => Piece::Bitmap {
+                bytes,
+                offset: 0,
+                length,
+            },
+            Run::Repeated { value, length } => Piece::Repeated { value, length },
         }
     }
 }
@@ -112,7 +151,6 @@ impl<'a> Runs<'a> {
         ensures given { stepped result self.new ≡ step self.old.w self.old.left self.old.rest.now }
         ensures width { self.new.w ≡ self.old.w }
         ensures kept { is_step result ≡ false → self.new ≡ self.old }
-        ensures fits { self.old.left < 2 ^ 64 }
     {
         if self.left == 0 {
             return Ok(None);

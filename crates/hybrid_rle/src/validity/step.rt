@@ -7,7 +7,7 @@ ghost use Rattle.hybrid_rle.specs.Held.{asked, held, Inside};
 use super::OptionalPageValidity;
 use crate::header::Broken;
 use crate::piece::Piece;
-use crate::runs::{Run, Runs, check};
+use crate::runs::{Runs, check};
 
 impl<'a> OptionalPageValidity<'a> {
     // The rows of the next run of the stream, up to the last row.
@@ -18,16 +18,7 @@ impl<'a> OptionalPageValidity<'a> {
         ensures current { self.new.current ≡ self.old.current }
     {
         match self.runs.next() {
-            Ok(None) => None,
-            Ok(Some(Run::Bitmap { bytes, length })) => Some(Piece::Bitmap {
-                bytes,
-                offset: 0,
-                length,
-            }),
-            Ok(Some(Run::Repeated { value, length })) => Some(Piece::Repeated {
-                value: value == 1,
-                length,
-            }),
+            Ok(run) => Some(run?.rows()),
             Err(_) => unreachable(),
         }
     }

@@ -1,27 +1,28 @@
-use Rattle.std.proofs.Common.{◌∙◌, arith}
-use Rattle.hybrid_rle.proofs.Pieces.{packed_on, repeated_on, gives_after}
-use Rattle.hybrid_rle.proofs.Streams.{stepped_at}
+use Rattle.std.proofs.Common.{◌≤◌, ◌∷◌, Some, Ok, sym, ap, ◌∙◌, subst, arith}
+use Rattle.hybrid_rle.specs.Rows.{later}
+use Rattle.hybrid_rle.specs.Borrowed.{stretch}
+use Rattle.hybrid_rle.specs.Held.{rows, run_end, bytes_end}
+use Rattle.hybrid_rle.proofs.Pieces.{rows_on, run_within, gives_after}
+use Rattle.hybrid_rle.proofs.Streams.{Stepped, stepped_at}
 use Rattle.hybrid_rle.proofs.validity.OptionalPageValidity.load.Goals as goal
+use Rattle.hybrid_rle.proofs.validity.OptionalPageValidity.load.Goals.{After-rows}
 
 pub invariant_of-self : goal.invariant_of-self
 invariant_of-self c =
     let h = c.args.self.now in
     record { one_bit = c.next.ensures.width ∙ h.one_bit; gives = gives_after c.next.result h.runs c.next.new.self h.one_bit c.next.ensures.given c.next.ensures.kept h.gives; inside = h.inside }
 
-pub returns-in-Ok-Some-Bitmap-clause-given : goal.returns-in-Ok-Some-Bitmap-clause-given
-returns-in-Ok-Some-Bitmap-clause-given c =
+-- the run that was given
+on : (c : After-rows) → Stepped 1 1 c.args.self.now.runs.left c.args.self.now.runs.rest.now (Ok (Some (stretch c.in_ok-run-in-Ok.field-0, c.next.new.self.left, c.next.new.self.rest.now)))
+on c =
     let h = c.args.self.now in
-    let s = stepped_at 1 1 h.runs.left h.runs.rest.now h.runs.w _ (omega arith) h.one_bit (rw (c.in-Ok-Some-Bitmap.field-0-is, c.in-Ok-Some-Bitmap.field-0-0-is) at c.in-Ok-Some-Bitmap.ensures.given) in
-    (packed_on h.runs.left _ h.runs.rest.now _ h.gives _ _ s).0
+    stepped_at 1 1 h.runs.left h.runs.rest.now h.runs.w _ (omega arith) h.one_bit (rw c.in_ok-run-in-Ok.was at c.in-Ok.ensures.given)
 
-pub returns-in-Ok-Some-Bitmap-clause-inside : goal.returns-in-Ok-Some-Bitmap-clause-inside
-returns-in-Ok-Some-Bitmap-clause-inside c =
+pub returns-clause-given : goal.returns-clause-given
+returns-clause-given c =
     let h = c.args.self.now in
-    let s = stepped_at 1 1 h.runs.left h.runs.rest.now h.runs.w _ (omega arith) h.one_bit (rw (c.in-Ok-Some-Bitmap.field-0-is, c.in-Ok-Some-Bitmap.field-0-0-is) at c.in-Ok-Some-Bitmap.ensures.given) in
-    let f = c.next.ensures.fits in (omega (arith, s.3), omega (arith, s.2))
+    let n = c.next.new.self in
+    ap (λ p. rows p ∷ later n.left n.rest.now) c.rows.ensures.piece ∙ rows_on h.runs.left n.left h.runs.rest.now n.rest.now h.gives c.in_ok-run-in-Ok.field-0 (on c)
 
-pub returns-in-Ok-Some-Repeated-clause-given : goal.returns-in-Ok-Some-Repeated-clause-given
-returns-in-Ok-Some-Repeated-clause-given c =
-    let h = c.args.self.now in
-    let s = stepped_at 1 1 h.runs.left h.runs.rest.now h.runs.w _ (omega arith) h.one_bit (rw (c.in-Ok-Some-Repeated.field-0-is, c.in-Ok-Some-Repeated.field-0-0-is) at c.in-Ok-Some-Repeated.ensures.given) in
-    (repeated_on h.runs.left _ h.runs.rest.now _ h.gives _ _ s).0
+pub returns-clause-inside : goal.returns-clause-inside
+returns-clause-inside c = (subst (λ p. run_end (Some p) ≤ bytes_end (Some p)) (sym c.rows.ensures.piece) (run_within c.in_ok-run-in-Ok.field-0 (on c).3), c.rows.ensures.near)
