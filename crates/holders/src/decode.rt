@@ -7,9 +7,9 @@ ghost use Rattle.values.specs.Values.{fits};
 ghost use Rattle.holders.specs.Filled.{Able, filled};
 
 use crate::cursor::Cursor;
-use crate::fill::{push_bits, push_same, push_values};
-use hybrid_rle::piece::rows_in;
-use hybrid_rle::validity::{OptionalPageValidity, Piece};
+use crate::fill::{push_bits, push_same};
+use hybrid_rle::piece::Piece;
+use hybrid_rle::validity::OptionalPageValidity;
 use sinks::pushable::{Pushable, Sink, Validity};
 
 // The rows of a piece into sink and validity.
@@ -17,7 +17,7 @@ pub(crate) fn push_piece<'p, C: Cursor, P: Pushable<C::Item>, V: Validity>(
     validity: &mut V,
     sink: &mut P,
     values: &mut C,
-    piece: Piece<'p>,
+    piece: Piece<'p, bool>,
 )
     requires inside { Inside (Some piece) }
     requires able { Able (P.Sink.room sink.old) (P.Sink.items sink.old) (rows piece) (C.Cursor.left values.old) }
@@ -39,9 +39,9 @@ pub(crate) fn push_piece<'p, C: Cursor, P: Pushable<C::Item>, V: Validity>(
             push_bits(sink, values, bytes, offset, length);
             let _ = validity.extend_from_slice(bytes, offset, length);
         }
-        Piece::Repeated { is_set, length } => {
-            push_same(sink, values, is_set, length);
-            let _ = validity.extend_constant(length, is_set);
+        Piece::Repeated { value, length } => {
+            push_same(sink, values, value, length);
+            let _ = validity.extend_constant(length, value);
         }
     }
 }
@@ -71,24 +71,7 @@ pub(crate) fn extend_from_decoder<'p, C: Cursor, P: Pushable<C::Item>, V: Validi
         let Some(piece) = page.next_limited(limit - done) else {
             return unreachable();
         };
-        let n = rows_in(piece);
+        done += piece.len();
         push_piece(validity, sink, values, piece);
-        done += n;
     }
-}
-
-// The next `limit` values into the sink, of a page without nulls.
-pub(crate) fn extend_required<C: Cursor, P: Pushable<C::Item>>(
-    limit: usize,
-    sink: &mut P,
-    values: &mut C,
-)
-    requires some { limit ≤ length (C.Cursor.left values.old) }
-    requires fits { fits (P.Sink.room sink.old) (P.Sink.items sink.old ++ take limit (C.Cursor.left values.old)) ≡ true }
-    ensures items { P.Sink.items sink.new ≡ P.Sink.items sink.old ++ take limit (C.Cursor.left values.old) }
-    ensures left { C.Cursor.left values.new ≡ drop limit (C.Cursor.left values.old) }
-    ensures room { P.Sink.room sink.new ≡ P.Sink.room sink.old }
-    ensures home { P.Sink.home sink.new ≡ P.Sink.home sink.old }
-{
-    push_values(sink, values, limit);
 }

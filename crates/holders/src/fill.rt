@@ -1,5 +1,6 @@
-ghost use Rattle.std.specs.Prelude.{◌≡◌, ℕ, ◌+◌, ◌*◌, ◌^◌, ◌<◌, ◌≤◌, Bool, true, cond, List, [], ◌∷◌, ◌++◌, length, drop, replicate};
+ghost use Rattle.std.specs.Prelude.{◌≡◌, ℕ, ◌+◌, ◌*◌, ◌^◌, ◌<◌, ◌≤◌, Bool, true, cond, List, [], ◌∷◌, ◌++◌, length, take, drop, replicate};
 ghost use Rattle.hybrid_rle.specs.Rows.{bits};
+ghost use Rattle.values.specs.Values.{fits};
 ghost use Rattle.holders.specs.Judge.{needed};
 ghost use Rattle.holders.specs.Filled.{Able, filled};
 
@@ -27,15 +28,20 @@ pub(crate) fn push_row<C: Cursor, P: Pushable<C::Item>>(sink: &mut P, values: &m
     }
 }
 
-// The next n values into the sink.
-pub(crate) fn push_values<C: Cursor, P: Pushable<C::Item>>(sink: &mut P, values: &mut C, n: usize)
-    requires { Able (P.Sink.room sink.old) (P.Sink.items sink.old) (replicate n true) (C.Cursor.left values.old) }
-    ensures items { P.Sink.items sink.new ≡ P.Sink.items sink.old ++ filled (P.Sink.room sink.old).blank (replicate n true) (C.Cursor.left values.old) }
-    ensures left { C.Cursor.left values.new ≡ drop (needed (replicate n true)) (C.Cursor.left values.old) }
+// The next `limit` values into the sink, of a page without nulls.
+pub(crate) fn extend_required<C: Cursor, P: Pushable<C::Item>>(
+    limit: usize,
+    sink: &mut P,
+    values: &mut C,
+)
+    requires some { limit ≤ length (C.Cursor.left values.old) }
+    requires fits { fits (P.Sink.room sink.old) (P.Sink.items sink.old ++ take limit (C.Cursor.left values.old)) ≡ true }
+    ensures items { P.Sink.items sink.new ≡ P.Sink.items sink.old ++ take limit (C.Cursor.left values.old) }
+    ensures left { C.Cursor.left values.new ≡ drop limit (C.Cursor.left values.old) }
     ensures room { P.Sink.room sink.new ≡ P.Sink.room sink.old }
     ensures home { P.Sink.home sink.new ≡ P.Sink.home sink.old }
 {
-    for i in 0..n {
+    for _i in 0..limit {
         push_row(sink, values, true);
     }
 }
@@ -75,7 +81,7 @@ pub(crate) fn push_same<C: Cursor, P: Pushable<C::Item>>(
     ensures home { P.Sink.home sink.new ≡ P.Sink.home sink.old }
 {
     if present {
-        push_values(sink, values, n);
+        extend_required(n, sink, values);
     } else {
         let _ = sink.push_nulls(n);
     }

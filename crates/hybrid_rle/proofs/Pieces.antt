@@ -1,10 +1,10 @@
 -- Laws of rows and their pieces.
-use Rattle.std.proofs.Common.{◌≡◌, ℕ, zero, suc, ◌+◌, ◌-◌, ◌<◌, ◌≤◌, min, Bool, true, false, cond, eqb, ltb, leb, List, [], ◌∷◌, ◌++◌, map, length, take, drop, replicate, is_ok, Some, None, Ok, Err, Option, Result, sym, refl, ap, ◌∙◌, ⊎_elim, add-zero, arith, length-append, length-drop, length-take}
+use Rattle.std.proofs.Common.{◌≡◌, ℕ, zero, suc, ◌+◌, ◌-◌, ◌<◌, ◌≤◌, min, Bool, true, false, cond, eqb, ltb, leb, List, [], ◌∷◌, ◌++◌, map, length, take, drop, replicate, is_ok, Some, None, Ok, Err, Option, Result, sym, refl, ap, ◌∙◌, ⊎_elim, add-zero, arith, length-append, length-take}
 use Rattle.std.specs.List.{flat_map}
 use native.Mathlib.Nat.{sub-zero}
 use lib.ListN.{length-map}
 use Rattle.std.proofs.lemmas.Bool.Decides.{nat_tests, leb_tells}
-use Rattle.std.proofs.lemmas.List.{drop-drop, drop_all, drop_at, append_assoc, take-append-drop, take_all, length-replicate, take-replicate, drop-replicate}
+use Rattle.std.proofs.lemmas.List.{append_assoc, take-append-drop, take_all, length-replicate, take-replicate, drop-replicate}
 use Rattle.hybrid_rle.specs.Runs.{Stretch, packed, repeated, bit, fields, ahead, allowed, numbers, runs, sound, step}
 use Rattle.hybrid_rle.specs.Rows.{present, bits, rows_of, later, gives_rows, piece, beyond, taken, flat}
 use Rattle.hybrid_rle.specs.declared.header.Broken.{Broken}
@@ -82,9 +82,6 @@ pub length_rows : (p : Piece Bool) → length (rows p) ≡ piece_count p
 length_rows (pc.Bitmap bs at n) = length_bits bs.now at n
 length_rows (pc.Repeated s n) = length-replicate n s
 
-pub count_of_rows : (p q : Piece Bool) → p ≡ q → length (rows p) ≡ piece_count q
-count_of_rows p q e = length_rows p ∙ ap piece_count e
-
 -- rows that are cut, and rows that are used up
 pub rows_cut : (xs ys zs : List Bool) (k : ℕ) → k < length xs → ys ≡ take k xs → zs ≡ drop k xs → (ys ≡ take k xs) × (zs ∷ [] ≡ beyond k (xs ∷ []))
 rows_cut xs ys zs k h e f = let t : ltb k (length xs) ≡ true = grind (arith, nat_tests) in (e, rw (t, f) refl)
@@ -149,19 +146,6 @@ module _ (k : ℕ) (xs : List Bool) (xss : List (List Bool)) where
       long : ((leb (suc k) (length ys) ≡ false) × (length ys < suc k)) → (k - length xs) + length xss < k + suc (length yss)
       long p = let q : beyond k (ys ∷ yss) ≡ yss = rw p.0 refl in let g : length xss ≡ length yss = ap length (b ∙ q) in omega (arith, l)
 
-pub drop_on : (xs fs all F : List Bool) (m : ℕ) → xs ++ fs ≡ all → all ≡ drop m F → m ≤ length F → (fs ≡ drop (m + length xs) F) × (m + length xs ≤ length F)
-drop_on xs fs all F m e g h =
-    let d : drop (length xs) (drop m F) ≡ drop (m + length xs) F = drop-drop (length xs) m F in
-    let a : drop (length xs) all ≡ fs = ap (drop (length xs)) (sym e) ∙ drop_at xs fs (length xs) refl in
-    let n : length xs + length fs ≡ length F - m = sym (length-append xs fs) ∙ ap length (e ∙ g) ∙ length-drop m F in
-    (sym a ∙ ap (drop (length xs)) g ∙ d, omega arith)
-
 pub piece_none : (k : ℕ) (all xss : List (List Bool)) → None ≡ piece k all → xss ≡ beyond k all → (flat all ≡ []) × (flat xss ≡ [])
 piece_none k [] xss e b = (refl, ap flat b)
 piece_none k (ys ∷ yss) xss e b = absurd (grind arith)
-
-pub at_end : (n m : ℕ) (F : List Bool) → [] ≡ drop m F → m ≤ length F → m ≤ n → (m ≡ min n (length F)) × ([] ≡ drop n F)
-at_end n m F e h l =
-    let z : 0 ≡ length F - m = ap length e ∙ length-drop m F in
-    let y : length F ≤ n = omega arith in
-    (omega arith, sym (drop_all n F y))

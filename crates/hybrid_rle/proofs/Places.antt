@@ -1,5 +1,5 @@
 -- Bits of bytes as digits of one number.
-use Rattle.std.proofs.Common.{◌≡◌, ℕ, zero, suc, ◌+◌, ◌-◌, ◌*◌, ◌/◌, ◌%◌, ◌^◌, ◌<◌, ◌≤◌, min, true, false, ◌&&◌, ltb, leb, List, [], ◌∷◌, length, get_or, take, drop, sym, refl, ap, ◌∙◌, ⊎_elim, mul-le-mul_right, mul_comm, add-mul, add-one, arith, le-ltb, lt-ltb}
+use Rattle.std.proofs.Common.{◌≡◌, ℕ, zero, suc, ◌+◌, ◌-◌, ◌*◌, ◌/◌, ◌%◌, ◌^◌, ◌<◌, ◌≤◌, min, true, false, ◌&&◌, ltb, leb, List, [], ◌∷◌, length, get_or, take, drop, sym, refl, ap, ◌∙◌, ⊎_elim, mul_comm, add-one, arith, lt-ltb}
 use native.Mathlib.Nat.{zero-div, zero-mod, div-one, mod-one, zero-min, min-zero, suc-min-suc}
 use Rattle.std.proofs.lemmas.Bool.Decides.{leb_tells}
 use Rattle.std.proofs.lemmas.List.{get_or-drop}
@@ -108,14 +108,8 @@ module _ (top w n i : ℕ) (bs : List ℕ) (at : ℕ) (small : i < n) where
   below_step : all_below top (fields w (n - i) bs at) ≡ (ltb (field w bs at) top && all_below top (fields w (n - (i + 1)) bs (at + w)))
   below_step = let e : n - i ≡ suc (n - (i + 1)) = omega arith in rw e refl
 
-  pub below_stops : (v : ℕ) → v ≡ field w bs at → top ≤ v → false ≡ all_below top (fields w (n - i) bs at)
-  below_stops v e h = let t : ltb (field w bs at) top ≡ false = le-ltb (field w bs at) top (omega arith) in sym (below_step ∙ rw t refl)
-
   pub below_goes : (v : ℕ) → v ≡ field w bs at → v < top → all_below top (fields w (n - i) bs at) ≡ all_below top (fields w (n - (i + 1)) bs (at + w))
   below_goes v e h = let t : ltb (field w bs at) top ≡ true = lt-ltb (field w bs at) top (omega arith) in below_step ∙ rw t refl
-
-  pub place_fits : at ≡ i * w → at + w ≤ n * w
-  place_fits e = let m : (i + 1) * w ≤ n * w = mul-le-mul_right w (omega arith) in omega (arith, add-mul i 1 w)
 
 -- a width of at most 32 is taken as it is
 pub small_width : (w : ℕ) (bs : List ℕ) (at : ℕ) → w ≤ 32 → field (min w 32) bs at ≡ field w bs at

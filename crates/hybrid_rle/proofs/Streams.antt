@@ -176,7 +176,7 @@ pub length_fields : (w n : ℕ) (bs : List ℕ) (at : ℕ) → length (fields w 
 length_fields w zero bs at = refl
 length_fields w (suc n) bs at = ap suc (length_fields w n bs (at + w))
 
-length_numbers : (w : ℕ) (r : Stretch) → length (numbers w r) ≡ count r
+pub length_numbers : (w : ℕ) (r : Stretch) → length (numbers w r) ≡ count r
 length_numbers w (packed bs n) = length_fields w n bs 0
 length_numbers w (repeated v n) = length-replicate n v
 

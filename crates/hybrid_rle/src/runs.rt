@@ -1,11 +1,12 @@
-ghost use Rattle.std.specs.Prelude.{◌≡◌, ◌^◌, ◌<◌, ◌≤◌, false, Some};
+ghost use Rattle.std.specs.Prelude.{◌≡◌, ◌^◌, ◌<◌, ◌≤◌, false, take, Some};
 ghost use Rattle.hybrid_rle.specs.Runs.{allowed, count, packed_in, repeated_in, run, run_at, runs, sound_at, step, upto};
 ghost use Rattle.hybrid_rle.specs.Borrowed.{as_rows, stretch, meant, stepped, is_step};
 ghost use Rattle.hybrid_rle.specs.Held.{run_end};
+ghost use Rattle.values.specs.Little.{little};
 
 use crate::header::{Broken, read_header};
 use crate::piece::Piece;
-use crate::unpack::first_number;
+use crate::unpack::unpacked;
 
 // A run of numbers, over the bytes that it was read from.
 #[derive(Clone, Copy)]
@@ -82,6 +83,13 @@ impl<'a> From<Run<'a>> for Piece<'a, u32> {
             Run::Repeated { value, length } => Piece::Repeated { value, length },
         }
     }
+}
+
+// The number in the first four bytes, the lowest first; bytes that are missing count as 0.
+pub fn first_number(bytes: &[u8]) -> u32
+    ensures { result ≡ little (take 4 bytes.now) }
+{
+    unpacked(bytes, 32, 0)
 }
 
 // A run of groups of 8 packed numbers of `w` bits, and the bytes after it.

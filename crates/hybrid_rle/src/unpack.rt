@@ -34,10 +34,3 @@ pub fn unpacked(bytes: &[u8], w: u8, at: usize) -> u32
     let value = window(&bytes[first..]);
     ((value >> (at % 8)) & ((1 << w) - 1)) as u32
 }
-
-// The number in the first four bytes, the lowest first; bytes that are missing count as 0.
-pub fn first_number(bytes: &[u8]) -> u32
-    ensures { result ≡ little (take 4 bytes.now) }
-{
-    unpacked(bytes, 32, 0)
-}

@@ -33,8 +33,8 @@ pub returns-in-Repeated : goal.returns-in-Repeated
 returns-in-Repeated g c =
     let v = c.args.validity.now in
     let n = c.in-Repeated.length in
-    let e : rows c.args.piece ≡ replicate n c.in-Repeated.is_set = ap rows c.in-Repeated.is in
-    let l : length (rows c.args.piece) ≡ n = ap length e ∙ length-replicate n c.in-Repeated.is_set in
+    let e : rows c.args.piece ≡ replicate n c.in-Repeated.value = ap rows c.in-Repeated.is in
+    let l : length (rows c.args.piece) ≡ n = ap length e ∙ length-replicate n c.in-Repeated.value in
     let s = c.requires.space in
     let x = c.extend_constant.ensures in
     let ok : is_ok c.extend_constant.result ≡ true = x.answer ∙ le-leb (length (g.V.Validity.bits v) + n) (g.V.Validity.room v) (omega arith) in
