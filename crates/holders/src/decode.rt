@@ -4,7 +4,7 @@ ghost use Rattle.hybrid_rle.specs.Held.{rows, Inside};
 ghost use Rattle.hybrid_rle.specs.Cursor.{to_come};
 ghost use Rattle.hybrid_rle.specs.Rows.{flat};
 ghost use Rattle.values.specs.Values.{fits};
-ghost use Rattle.holders.specs.Filled.{Able, filled};
+ghost use Rattle.holders.specs.Filled.{Able, Fills, filled};
 
 use crate::cursor::Cursor;
 use crate::fill::{push_bits, push_same};
@@ -22,10 +22,7 @@ pub(crate) fn push_piece<'p, C: Cursor, P: Pushable<C::Item>, V: Validity>(
     requires inside { Inside (Some piece) }
     requires able { Able (P.Sink.room sink.old) (P.Sink.items sink.old) (rows piece) (C.Cursor.left values.old) }
     requires space { length (V.Validity.bits validity.old) + length (rows piece) ≤ V.Validity.room validity.old }
-    ensures items { P.Sink.items sink.new ≡ P.Sink.items sink.old ++ filled (P.Sink.room sink.old).blank (rows piece.entry) (C.Cursor.left values.old) }
-    ensures left { C.Cursor.left values.new ≡ drop (needed (rows piece.entry)) (C.Cursor.left values.old) }
-    ensures room { P.Sink.room sink.new ≡ P.Sink.room sink.old }
-    ensures home { P.Sink.home sink.new ≡ P.Sink.home sink.old }
+    ensures fills { Fills (rows piece.entry) (P.Sink.room sink.old) (P.Sink.home sink.old) (P.Sink.items sink.old) (C.Cursor.left values.old) (P.Sink.room sink.new) (P.Sink.home sink.new) (P.Sink.items sink.new) (C.Cursor.left values.new) }
     ensures bits { V.Validity.bits validity.new ≡ V.Validity.bits validity.old ++ rows piece.entry }
     ensures space { V.Validity.room validity.new ≡ V.Validity.room validity.old }
     ensures same { V.Validity.home validity.new ≡ V.Validity.home validity.old }

@@ -2,7 +2,7 @@ ghost use Rattle.std.specs.Prelude.{◌≡◌, ℕ, ◌+◌, ◌*◌, ◌^◌, �
 ghost use Rattle.hybrid_rle.specs.Rows.{bits};
 ghost use Rattle.values.specs.Values.{fits};
 ghost use Rattle.holders.specs.Judge.{needed};
-ghost use Rattle.holders.specs.Filled.{Able, filled};
+ghost use Rattle.holders.specs.Filled.{Able, Fills};
 
 use crate::cursor::Cursor;
 use bitmap::utils::get_bit;
@@ -11,10 +11,7 @@ use sinks::pushable::{Pushable, Sink};
 // One row into the sink: the next value, or a stand-in.
 pub(crate) fn push_row<C: Cursor, P: Pushable<C::Item>>(sink: &mut P, values: &mut C, present: bool)
     requires { Able (P.Sink.room sink.old) (P.Sink.items sink.old) (present ∷ []) (C.Cursor.left values.old) }
-    ensures items { P.Sink.items sink.new ≡ P.Sink.items sink.old ++ filled (P.Sink.room sink.old).blank (present ∷ []) (C.Cursor.left values.old) }
-    ensures left { C.Cursor.left values.new ≡ drop (needed (present ∷ [])) (C.Cursor.left values.old) }
-    ensures room { P.Sink.room sink.new ≡ P.Sink.room sink.old }
-    ensures home { P.Sink.home sink.new ≡ P.Sink.home sink.old }
+    ensures { Fills (present ∷ []) (P.Sink.room sink.old) (P.Sink.home sink.old) (P.Sink.items sink.old) (C.Cursor.left values.old) (P.Sink.room sink.new) (P.Sink.home sink.new) (P.Sink.items sink.new) (C.Cursor.left values.new) }
 {
     if present {
         match values.next() {
@@ -56,10 +53,7 @@ pub(crate) fn push_bits<C: Cursor, P: Pushable<C::Item>>(
 )
     requires near { offset + n < 2 ^ 64 }
     requires able { Able (P.Sink.room sink.old) (P.Sink.items sink.old) (bits bytes.now offset n) (C.Cursor.left values.old) }
-    ensures items { P.Sink.items sink.new ≡ P.Sink.items sink.old ++ filled (P.Sink.room sink.old).blank (bits bytes.now offset n) (C.Cursor.left values.old) }
-    ensures left { C.Cursor.left values.new ≡ drop (needed (bits bytes.now offset n)) (C.Cursor.left values.old) }
-    ensures room { P.Sink.room sink.new ≡ P.Sink.room sink.old }
-    ensures home { P.Sink.home sink.new ≡ P.Sink.home sink.old }
+    ensures { Fills (bits bytes.now offset n) (P.Sink.room sink.old) (P.Sink.home sink.old) (P.Sink.items sink.old) (C.Cursor.left values.old) (P.Sink.room sink.new) (P.Sink.home sink.new) (P.Sink.items sink.new) (C.Cursor.left values.new) }
 {
     for i in 0..n {
         let present = get_bit(bytes, offset + i);
@@ -75,10 +69,7 @@ pub(crate) fn push_same<C: Cursor, P: Pushable<C::Item>>(
     n: usize,
 )
     requires { Able (P.Sink.room sink.old) (P.Sink.items sink.old) (replicate n present) (C.Cursor.left values.old) }
-    ensures items { P.Sink.items sink.new ≡ P.Sink.items sink.old ++ filled (P.Sink.room sink.old).blank (replicate n present) (C.Cursor.left values.old) }
-    ensures left { C.Cursor.left values.new ≡ drop (needed (replicate n present)) (C.Cursor.left values.old) }
-    ensures room { P.Sink.room sink.new ≡ P.Sink.room sink.old }
-    ensures home { P.Sink.home sink.new ≡ P.Sink.home sink.old }
+    ensures { Fills (replicate n present) (P.Sink.room sink.old) (P.Sink.home sink.old) (P.Sink.items sink.old) (C.Cursor.left values.old) (P.Sink.room sink.new) (P.Sink.home sink.new) (P.Sink.items sink.new) (C.Cursor.left values.new) }
 {
     if present {
         extend_required(n, sink, values);

@@ -1,5 +1,7 @@
 ghost use Rattle.holders.specs.Cases.{Cases};
 
-pub fn cases_stand()
+pub fn cases_stand() -> u8
     ensures { Cases }
-{}
+{
+    0
+}

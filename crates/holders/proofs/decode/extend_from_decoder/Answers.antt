@@ -60,13 +60,13 @@ loop-done-preserved g c =
     let e = all_rows F xs ys d c.args.limit o some n in
     let x : take (d + c.len-done.result) F ≡ take d F ++ xs = ap (λ j. take (d + j) F) k ∙ more_taken F xs ys d c.args.limit o some n in
     let z = c.push_piece.ensures in
-    let y = mid_grown _ _ (take c.args.limit F) (take d F) xs (take (c.args.limit - (d + length xs)) ys) _ e c.requires.able _ (take (d + c.len-done.result) F) _ _ _ _ c.loop-done.invariant.4 x c.loop-done.invariant.2 c.loop-done.invariant.3 z.items z.left in (
+    let y = mid_grown _ _ (take c.args.limit F) (take d F) xs (take (c.args.limit - (d + length xs)) ys) _ e c.requires.able _ (take (d + c.len-done.result) F) _ _ _ _ c.loop-done.invariant.4 x c.loop-done.invariant.2 c.loop-done.invariant.3 z.fills.items z.fills.left in (
       omega arith,
       more_dropped F xs ys d c.args.limit o some n ∙ ap (λ j. drop (d + j) F) (sym k),
       y.0,
       y.1,
-      z.room ∙ c.loop-done.invariant.4,
-      z.home ∙ c.loop-done.invariant.5,
+      z.fills.room ∙ c.loop-done.invariant.4,
+      z.fills.home ∙ c.loop-done.invariant.5,
       z.bits ∙ ap (λ l. l ++ xs) c.loop-done.invariant.6 ∙ append_assoc (g.V.Validity.bits c.args.validity.now) (take d F) xs ∙ ap (λ l. g.V.Validity.bits c.args.validity.now ++ l) (sym x),
       z.space ∙ c.loop-done.invariant.7,
       z.same ∙ c.loop-done.invariant.8,

@@ -8,12 +8,12 @@ use Rattle.holders.proofs.fill.extend_required.Goals as goal
 
 pub push_row-requires : goal.push_row-requires
 push_row-requires g c =
-    mid_able _ _ _ (replicate c.loop-i._i true) (true ∷ []) (replicate (c.args.limit - (c.loop-i._i + 1)) true) _ (split_same c.args.limit c.loop-i._i c.loop-i-test.true) (able_values (g.P.Sink.room c.args.sink.now) (g.P.Sink.items c.args.sink.now) (g.C.Cursor.left c.args.values.now) c.args.limit c.requires.some c.requires.fits) _ _ _ c.loop-i.invariant.2 c.loop-i.invariant.0 c.loop-i.invariant.1
+    mid_able _ _ _ (replicate c.loop-i._i true) (true ∷ []) (replicate (c.args.limit - (c.loop-i._i + 1)) true) _ (split_same c.args.limit c.loop-i._i c.loop-i-test.true) (able_values (g.P.Sink.room c.args.sink.now) (g.P.Sink.items c.args.sink.now) (g.C.Cursor.left c.args.values.now) c.args.limit c.requires.some c.requires.fits) _ _ _ c.loop-i.invariant.room c.loop-i.invariant.items c.loop-i.invariant.left
 
 pub loop-i-preserved : goal.loop-i-preserved
 loop-i-preserved g c =
-    let e = mid_grown _ _ _ (replicate c.loop-i._i true) (true ∷ []) (replicate (c.args.limit - (c.loop-i._i + 1)) true) _ (split_same c.args.limit c.loop-i._i c.loop-i-test.true) (able_values (g.P.Sink.room c.args.sink.now) (g.P.Sink.items c.args.sink.now) (g.C.Cursor.left c.args.values.now) c.args.limit c.requires.some c.requires.fits) _ (replicate (c.loop-i._i + 1) true) _ _ _ _ c.loop-i.invariant.2 (sym (replicate_more c.loop-i._i true)) c.loop-i.invariant.0 c.loop-i.invariant.1 c.push_row.ensures.items c.push_row.ensures.left in
-    (e.0, e.1, c.push_row.ensures.room ∙ c.loop-i.invariant.2, c.push_row.ensures.home ∙ c.loop-i.invariant.3)
+    let e = mid_grown _ _ _ (replicate c.loop-i._i true) (true ∷ []) (replicate (c.args.limit - (c.loop-i._i + 1)) true) _ (split_same c.args.limit c.loop-i._i c.loop-i-test.true) (able_values (g.P.Sink.room c.args.sink.now) (g.P.Sink.items c.args.sink.now) (g.C.Cursor.left c.args.values.now) c.args.limit c.requires.some c.requires.fits) _ (replicate (c.loop-i._i + 1) true) _ _ _ _ c.loop-i.invariant.room (sym (replicate_more c.loop-i._i true)) c.loop-i.invariant.items c.loop-i.invariant.left c.push_row.ensures.items c.push_row.ensures.left in
+    record { items = e.0; left = e.1; room = c.push_row.ensures.room ∙ c.loop-i.invariant.room; home = c.push_row.ensures.home ∙ c.loop-i.invariant.home }
 
 pub returns : goal.returns
 returns g c =
@@ -24,8 +24,8 @@ returns g c =
     let t = c.loop-i-test.false in
     let i : c.loop-i._i ≡ c.args.limit = omega arith in
     record {
-      items = c.loop-i.invariant.0 ∙ ap (λ j. its ++ filled b (replicate j true) vs) i ∙ ap (λ l. its ++ l) (filled_values b c.args.limit vs c.requires.some);
-      left = c.loop-i.invariant.1 ∙ ap (λ j. drop (needed (replicate j true)) vs) i ∙ ap (λ j. drop j vs) (needed_values c.args.limit);
-      room = c.loop-i.invariant.2;
-      home = c.loop-i.invariant.3;
+      items = c.loop-i.invariant.items ∙ ap (λ j. its ++ filled b (replicate j true) vs) i ∙ ap (λ l. its ++ l) (filled_values b c.args.limit vs c.requires.some);
+      left = c.loop-i.invariant.left ∙ ap (λ j. drop (needed (replicate j true)) vs) i ∙ ap (λ j. drop j vs) (needed_values c.args.limit);
+      room = c.loop-i.invariant.room;
+      home = c.loop-i.invariant.home;
     }
