@@ -15,7 +15,6 @@ use Rattle.holders.specs.Counts.{below}
 use Rattle.holders.specs.declared.types.Form.{Form}
 use Rattle.holders.specs.declared.types.Form.TheVariants.{Four, Eight, Bits, Arrays}
 use Rattle.holders.specs.declared.types.Dict.{Dict}
-use Rattle.holders.specs.declared.types.Numbers.TheVariants.{Nothing}
 use Rattle.holders.specs.declared.types.Values.TheVariants.{Coded}
 use Rattle.holders.proofs.Lengths.{Has, has_test, has_arrays, length_parts}
 use Rattle.holders.proofs.After.{some_put}
@@ -86,7 +85,7 @@ module _ (f : Form) (d : Dict) (n w : ℕ) (bytes : List ℕ) (rest : Bor (List 
   all_of : values f true (dict_entries f d) n bytes ≡ coded_by (dict_entries f d) (as_numbers (runs w (2 ^ 32 - 1) n rest.now))
   all_of = values_coded f (dict_entries f d) n bytes fine ∙ ap (coded_by (dict_entries f d)) by_runs
 
-  pub coded_good : w ≤ 32 → n ≤ 1048576 → below d.entries (runs w (2 ^ 32 - 1) n rest.now) ≡ true → Ok (values_left f n (Coded d (record { w = w; current = Nothing; rest = rest; left = n }))) ≡ sure (values f true (dict_entries f d) n bytes)
+  pub coded_good : w ≤ 32 → n ≤ 1048576 → below d.entries (runs w (2 ^ 32 - 1) n rest.now) ≡ true → Ok (values_left f n (Coded d (record { runs = record { w = w; rest = rest; left = n }; current = None }))) ≡ sure (values f true (dict_entries f d) n bytes)
   coded_good l m b = let t : leb w 32 ≡ true = le-leb w 32 l in let u : leb n 1048576 ≡ true = le-leb n 1048576 m in rw (t, u) (good (dict_entries f d) (runs w (2 ^ 32 - 1) n rest.now) d.entries n fine (has_dict f d) (counts_by w (2 ^ 32 - 1) n (length rest.now) rest.now) b ∙ ap sure (sym all_of))
 
   pub coded_bad : Ok tt ≡ no_fault no_values (sound (runs w (2 ^ 32 - 1) n rest.now)) → below d.entries (runs w (2 ^ 32 - 1) n rest.now) ≡ false → Err Index ≡ sure (values f true (dict_entries f d) n bytes)

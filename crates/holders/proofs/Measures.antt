@@ -1,10 +1,10 @@
 -- Laws of weights and counts.
-use Rattle.std.proofs.Common.{◌≡◌, ℕ, zero, suc, ◌+◌, ◌-◌, ◌<◌, ◌≤◌, Bool, true, false, cond, leb, List, [], ◌∷◌, ◌++◌, length, take, drop, Some, None, Option, sym, refl, ap, ◌∙◌, ⊎_elim, arith, length-append}
+use Rattle.std.proofs.Common.{◌≡◌, ℕ, zero, suc, ◌+◌, ◌-◌, ◌<◌, ◌≤◌, Bool, true, false, leb, List, [], ◌∷◌, ◌++◌, length, take, drop, Some, None, Option, sym, refl, ap, ◌∙◌, ⊎_elim, arith}
 use mir.Val.{bool_byte}
 use Rattle.std.proofs.lemmas.Bool.Decides.{leb_tells}
 use Rattle.std.proofs.lemmas.Bool.{le-leb, lt-leb}
 use Rattle.pages.specs.Delivered.{first, others}
-use Rattle.values.specs.Values.{Value, Room, fits, weight, weights}
+use Rattle.values.specs.Values.{Value, weight, weights}
 use Rattle.holders.specs.Judge.{needed}
 use Rattle.holders.specs.Filled.{filled}
 use Rattle.sinks.proofs.Rows.{weights_append}
@@ -43,13 +43,6 @@ module _ (vs : List Value) (i : ℕ) (x : Value) (is : Some x ≡ first (drop i 
   pub weigh_out : (k n : ℕ) → k ≡ weight x → spare < k → i < n → false ≡ leb (weights (take n vs)) most
   weigh_out k n e h l = sym (lt-leb (weights (take n vs)) most (omega (arith, one_weight, weights_mono vs (i + 1) n (omega arith))))
 
-pub needed_one : (b : Bool) → needed (b ∷ []) ≡ cond b 1 0
-needed_one true = refl
-needed_one false = refl
-
-pub needed_push : (xs : List Bool) (b : Bool) → needed (xs ++ (b ∷ [])) ≡ needed xs + cond b 1 0
-needed_push xs b = needed_append xs (b ∷ []) ∙ ap (λ n. needed xs + n) (needed_one b)
-
 pub needed_byte : (xs ys : List Bool) (b : Bool) (count i : ℕ) → ys ≡ xs ++ (b ∷ []) → count ≡ needed xs → count ≤ i → (count + bool_byte b ≡ needed ys) × (count + bool_byte b ≤ i + 1)
 needed_byte xs ys b count i e c h = (ap (λ n. n + bool_byte b) c ∙ sym (ap needed e ∙ needed_append xs (b ∷ []) ∙ ap (λ n. needed xs + n) (one b)), omega (arith, most b))
   where
@@ -76,13 +69,3 @@ filled_weight b (false ∷ bs) vs l h = omega (arith, filled_weight b bs vs l h)
 
 pub leb_same : (a b c d : ℕ) → a + b ≡ c → d ≡ c → (w : ℕ) → leb (a + w) d ≡ leb w b
 leb_same a b c d e f w = ⊎_elim (λ p. le-leb (a + w) d (omega (arith, p.1)) ∙ sym p.0) (λ p. lt-leb (a + w) d (omega (arith, p.1)) ∙ sym p.0) (leb_tells w b)
-
--- rows that there is room for fit where the values' bytes do
-pub fits_by_weight : (r : Room) (its : List Value) (b : Value) (bs : List Bool) (vs : List Value) (spare : ℕ) → weight b ≡ 0 → needed bs ≤ length vs → length its + length bs ≤ r.rows → weights its + spare ≡ r.bytes → fits r (its ++ filled b bs vs) ≡ leb (weights (take (needed bs) vs)) spare
-fits_by_weight r its b bs vs spare l h k e =
-    let n : length (its ++ filled b bs vs) ≡ length its + length bs = length-append its (filled b bs vs) ∙ ap (λ t. length its + t) (filled_length b bs vs h) in
-    let w : weights (its ++ filled b bs vs) ≡ weights its + weights (take (needed bs) vs) = weights_append its (filled b bs vs) ∙ ap (λ t. weights its + t) (filled_weight b bs vs l h) in
-    ap (λ t. cond (leb t r.rows) (leb (weights (its ++ filled b bs vs)) r.bytes) false) n
-    ∙ ap (λ t. cond t (leb (weights (its ++ filled b bs vs)) r.bytes) false) (le-leb (length its + length bs) r.rows k)
-    ∙ ap (λ t. leb t r.bytes) w
-    ∙ leb_same (weights its) spare r.bytes r.bytes e refl (weights (take (needed bs) vs))

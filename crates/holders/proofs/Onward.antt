@@ -1,15 +1,18 @@
 -- Indices, one after the other.
-use Rattle.std.proofs.Common.{◌≡◌, ℕ, zero, suc, ◌+◌, ◌-◌, ◌*◌, ◌^◌, ◌<◌, ◌≤◌, min, Bool, true, false, cond, ◌&&◌, leb, List, [], ◌∷◌, length, take, replicate, is_some, Some, None, Ok, Err, Option, Result, sym, refl, ap, ◌∙◌, mul-le-mul_right, suc-mul, arith, le-leb, leb-true}
-use Rattle.hybrid_rle.specs.Runs.{Stretch, packed, repeated, run, runs, ahead, allowed, numbers, count, field, fields}
+use Rattle.std.proofs.Common.{◌≡◌, ℕ, zero, suc, ◌+◌, ◌-◌, ◌*◌, ◌^◌, ◌<◌, ◌≤◌, min, Bool, true, false, cond, ◌&&◌, leb, List, [], ◌∷◌, length, replicate, is_some, Some, None, Ok, Err, Option, Result, sym, refl, ap, ◌∙◌, mul-le-mul_right, suc-mul, arith, le-leb, leb-true}
+use Rattle.hybrid_rle.specs.Runs.{Stretch, run, runs, ahead, allowed, numbers, count, field, fields}
 use Rattle.hybrid_rle.specs.declared.header.Broken.{Broken}
 use Rattle.hybrid_rle.specs.declared.header.Broken.TheVariants.{Above}
-use Rattle.hybrid_rle.proofs.Streams.{runs_more}
+use Rattle.hybrid_rle.proofs.Streams.{Roomy, Stepped}
 use Rattle.holders.specs.Judge.{put}
-use Rattle.holders.specs.Left.{ok_some, current_numbers, numbers_left}
+use Rattle.holders.specs.Left.{ok_some, or_none, current_numbers, numbers_left}
 use Rattle.holders.specs.Entries.{current_count}
-use Rattle.holders.specs.declared.types.Numbers.{Numbers}
-use Rattle.holders.specs.declared.types.Numbers.TheVariants.{Packed, Repeated, Nothing}
-use Rattle.holders.proofs.Below.{take_fields, take_replicate_min, room_min}
+use Rattle.hybrid_rle.specs.declared.piece.Piece.{Piece}
+use Rattle.hybrid_rle.specs.declared.piece.Piece.TheVariants as pc
+use Rattle.hybrid_rle.specs.declared.runs.Run.{Run}
+use Rattle.hybrid_rle.specs.declared.runs.Run.TheVariants.{Bitmap, Repeated}
+use Rattle.hybrid_rle.specs.Borrowed.{as_numbers, stretch}
+use Rattle.holders.proofs.Below.{few_bits}
 
 -- all indices to come, in parts
 abbrev pub all_to_come : ℕ → Option (List ℕ) → ℕ → List ℕ → Option (List ℕ)
@@ -64,36 +67,59 @@ pop_repeated w (suc n) v left rest h =
     rw m (put_numbers (leb w 32 && leb left 1048576) v (replicate n v) (runs w (2 ^ 32 - 1) left rest))
 
 -- the next run
-none_left : (w : ℕ) (c : Numbers) → current_count c ≡ 0 → is_some (current_numbers w c) ≡ true → current_numbers w c ≡ Some []
-none_left w (Packed bs at n) z h = let t = fit_of (leb (at + n * w) (min (8 * length bs.now) (2 ^ 26))) (fields w n bs.now at) h in rw (t, z) refl
-none_left w (Repeated v n) z h = rw z refl
-none_left w Nothing z h = refl
+none_left : (w : ℕ) (c : Option (Piece ℕ)) → current_count c ≡ 0 → is_some (current_numbers w c) ≡ true → current_numbers w c ≡ Some []
+none_left w (Some (pc.Bitmap bs at n)) z h = let t = fit_of (leb (at + n * w) (min (8 * length bs.now) (2 ^ 26))) (fields w n bs.now at) h in rw (t, z) refl
+none_left w (Some (pc.Repeated v n)) z h = rw z refl
+none_left w None z h = refl
 
 after_run : (t : Bool) (xs : List ℕ) (r : Result (List (List ℕ)) Broken) → is_some (ok_some (cond t (ahead xs r) (Err Above))) ≡ true → numbers_left (Some []) (cond t (ahead xs r) (Err Above)) ≡ numbers_left (Some xs) r
 after_run true xs (Ok xss) h = refl
 after_run true xs (Err e) h = absurd (grind arith)
 after_run false xs r h = absurd (grind arith)
 
-pub load_on : (w left : ℕ) (rest after : List ℕ) (c : Numbers) (r : Stretch) (xs : List ℕ) (k : ℕ) → 0 < left → current_count c ≡ 0 → Ok (r, after) ≡ run w rest → is_some (all_to_come w (current_numbers w c) left rest) ≡ true → xs ≡ take left (numbers w r) → left - k ≡ left - count r → all_to_come w (Some xs) (left - k) after ≡ all_to_come w (current_numbers w c) left rest
-load_on w zero rest after c r xs k h z e s x d = absurd (omega arith)
-load_on w (suc n) rest after c r xs k h z e s x d =
-    let b = bounds w _ (suc n) rest s in
-    let o = both (current_numbers w c) (runs w (2 ^ 32 - 1) (suc n) rest) b.2 in
-    let m : runs w (2 ^ 32 - 1) (suc n) rest ≡ cond (allowed (2 ^ 32 - 1) r) (ahead (take (suc n) (numbers w r)) (runs w (2 ^ 32 - 1) (suc n - count r) after)) (Err Above) = runs_more w (2 ^ 32 - 1) n rest ∙ rw (sym e) refl in
-    let i = none_left w c z o.0 in
-    let p : leb w 32 ≡ true = le-leb _ _ b.0 in
-    let q : leb (suc n) 1048576 ≡ true = le-leb _ _ b.1 in
-    let u : leb (suc n - k) 1048576 ≡ true = le-leb _ _ (omega arith) in
-    let g : is_some (ok_some (cond (allowed (2 ^ 32 - 1) r) (ahead (take (suc n) (numbers w r)) (runs w (2 ^ 32 - 1) (suc n - count r) after)) (Err Above))) ≡ true = ap (λ y. is_some (ok_some y)) (sym m) ∙ o.1 in
-    rw (p, q, u, i, m, x, d) (sym (after_run (allowed (2 ^ 32 - 1) r) (take (suc n) (numbers w r)) (runs w (2 ^ 32 - 1) (suc n - count r) after) g))
+module _ (w n left : ℕ) (bs rest : List ℕ) (c : Option (Piece ℕ)) (z : current_count c ≡ 0) (s : is_some (all_to_come w (current_numbers w c) n bs) ≡ true) where
+  within : (w ≤ 32) × (n ≤ 1048576) × (is_some (ok_some (runs w (2 ^ 32 - 1) n bs)) ≡ true)
+  within = let b = bounds w _ n bs s in (b.0, b.1, (both (current_numbers w c) (runs w (2 ^ 32 - 1) n bs) b.2).1)
 
-pub load_packed : (w left : ℕ) (rest after bs : List ℕ) (c : Numbers) (m k : ℕ) → 0 < left → current_count c ≡ 0 → Ok (packed bs m, after) ≡ run w rest → is_some (all_to_come w (current_numbers w c) left rest) ≡ true → k ≡ min m left → m * w ≤ 8 * length bs → all_to_come w (cond (leb (0 + k * w) (min (8 * length bs) (2 ^ 26))) (Some (fields w k bs 0)) None) (left - k) after ≡ all_to_come w (current_numbers w c) left rest
-load_packed w left rest after bs c m k h z e s l r =
-    let b = bounds w _ left rest s in
-    let f = room_min k m left w (8 * length bs) l b.1 b.0 r in
-    let a : k * w ≤ 1048576 * w = mul-le-mul_right w (omega arith) in
-    let t : leb (0 + k * w) (min (8 * length bs) (2 ^ 26)) ≡ true = le-leb _ _ (omega arith) in
-    rw t (load_on w left rest after c (packed bs m) (fields w k bs 0) k h z e s (ap (λ j. fields w j bs 0) l ∙ sym (take_fields w m bs 0 left)) (omega arith))
+  -- a run that follows a run that is used up
+  pub load_on : (r : Stretch) → Stepped w (2 ^ 32 - 1) n bs (Ok (Some (r, left, rest))) → all_to_come w (Some (numbers w r)) left rest ≡ all_to_come w (current_numbers w c) n bs
+  load_on r h =
+      let b = bounds w _ n bs s in
+      let i = none_left w c z (both (current_numbers w c) (runs w (2 ^ 32 - 1) n bs) b.2).0 in
+      let p : leb w 32 ≡ true = le-leb _ _ b.0 in
+      let q : leb n 1048576 ≡ true = le-leb _ _ b.1 in
+      let u : leb left 1048576 ≡ true = le-leb _ _ (omega (arith, h.2)) in
+      let g : is_some (ok_some (cond (allowed (2 ^ 32 - 1) r) (ahead (numbers w r) (runs w (2 ^ 32 - 1) left rest)) (Err Above))) ≡ true = ap (λ y. is_some (ok_some y)) (sym h.0) ∙ within.2 in
+      rw (p, q, u, i, h.0) (sym (after_run (allowed (2 ^ 32 - 1) r) (numbers w r) (runs w (2 ^ 32 - 1) left rest) g))
 
-pub load_repeated : (w left : ℕ) (rest after : List ℕ) (v : ℕ) (c : Numbers) (m k : ℕ) → 0 < left → current_count c ≡ 0 → Ok (repeated v m, after) ≡ run w rest → is_some (all_to_come w (current_numbers w c) left rest) ≡ true → k ≡ min m left → all_to_come w (Some (replicate k v)) (left - k) after ≡ all_to_come w (current_numbers w c) left rest
-load_repeated w left rest after v c m k h z e s l = load_on w left rest after c (repeated v m) (replicate k v) k h z e s (ap (λ j. replicate j v) l ∙ sym (take_replicate_min v m left)) (omega arith)
+  -- as a piece it has all its numbers
+  whole : (run : Run) → count (stretch run) ≤ 1048576 → Roomy w (stretch run) → current_numbers w (Some (as_numbers run)) ≡ Some (numbers w (stretch run))
+  whole (Bitmap xs m) l h = let a = few_bits m w l within.0 in let t : leb (0 + m * w) (min (8 * length xs.now) (2 ^ 26)) ≡ true = le-leb _ _ (omega arith) in rw t refl
+  whole (Repeated v m) l h = refl
+
+  pub load_run : (run : Run) → Stepped w (2 ^ 32 - 1) n bs (Ok (Some (stretch run, left, rest))) → all_to_come w (current_numbers w (Some (as_numbers run))) left rest ≡ all_to_come w (current_numbers w c) n bs
+  load_run run h = ap (λ x. all_to_come w x left rest) (whole run (let l = within.1 in omega (arith, h.2)) h.3) ∙ load_on (stretch run) h
+
+  -- and the stream is sound
+  pub load_ok : (e : Broken) → Stepped w (2 ^ 32 - 1) n bs (Err e) → ⊥
+  load_ok e h = let o = ap (λ y. is_some (ok_some y)) (sym h.0) ∙ within.2 in absurd (grind arith)
+
+-- where indices are left and none of the current run, the stream has some
+some_of : (o : Option (List ℕ)) → 0 < length (or_none o) → is_some o ≡ true
+some_of (Some xs) h = refl
+some_of None h = absurd (omega arith)
+
+none_of : (t : Bool) → length (or_none (cond {A = Option (List ℕ)} t (Some []) None)) ≡ 0
+none_of true = refl
+none_of false = refl
+
+pub more_left : (w left : ℕ) (bs : List ℕ) (c : Option (Piece ℕ)) → current_count c ≡ 0 → 0 < length (or_none (all_to_come w (current_numbers w c) left bs)) → (is_some (all_to_come w (current_numbers w c) left bs) ≡ true) × (0 < left)
+more_left w left bs c z h = let s = some_of (all_to_come w (current_numbers w c) left bs) h in (s, positive left h s)
+  where
+    positive : (left : ℕ) → 0 < length (or_none (all_to_come w (current_numbers w c) left bs)) → is_some (all_to_come w (current_numbers w c) left bs) ≡ true → 0 < left
+    positive zero h s =
+        let i = none_left w c z (both (current_numbers w c) (runs w (2 ^ 32 - 1) 0 bs) (bounds w _ 0 bs s).2).0 in
+        let e = ap (λ x. length (or_none (all_to_come w x 0 bs))) i in
+        let n = none_of (leb w 32 && leb 0 1048576) in
+        absurd (omega arith)
+    positive (suc n) h s = omega arith

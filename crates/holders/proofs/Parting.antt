@@ -17,7 +17,7 @@ use Rattle.holders.specs.Counts.{tallied}
 use Rattle.holders.specs.Shapes.{sure}
 use Rattle.holders.specs.declared.types.Form.{Form}
 use Rattle.holders.specs.declared.types.Values.{Values}
-use Rattle.holders.proofs.Tally.{needed_true}
+use Rattle.holders.proofs.Validities.{needed_values}
 
 -- what the parts of a page are
 pub record Parted (o : Bool) (m n : ℕ) (v : OptionalPageValidity) (values body : List ℕ) : Type 0 where
@@ -27,7 +27,7 @@ pub record Parted (o : Bool) (m n : ℕ) (v : OptionalPageValidity) (values body
 
 pub not_optional : (o : Bool) (n : ℕ) (v : OptionalPageValidity) (bs : List ℕ) → o ≡ false → Parted o n n v bs bs
 not_optional true n v bs e = absurd (grind arith)
-not_optional false n v bs e = record { parts = refl; count = sym (needed_true n); rows = length-replicate n true }
+not_optional false n v bs e = record { parts = refl; count = sym (needed_values n); rows = length-replicate n true }
 
 abbrev opened : List ℕ → Result (List (List ℕ)) Broken → Result (List Bool × List ℕ) Cause
 opened values r = then_do (no_fault Validity r) (λ xss. Ok (flat (map (map present) xss), values))

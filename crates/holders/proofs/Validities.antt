@@ -35,6 +35,16 @@ pub needed_values : (n : ℕ) → needed (replicate n true) ≡ n
 needed_values zero = refl
 needed_values (suc n) = ap suc (needed_values n)
 
+-- room for values, as room for a run of present rows, and back
+pub able_values : (r : Room) (its vs : List Value) (n : ℕ) → n ≤ length vs → fits r (its ++ take n vs) ≡ true → Able r its (replicate n true) vs
+able_values r its vs n h f = (omega (arith, needed_values n), ap (λ t. fits r (its ++ t)) (filled_values r.blank n vs h) ∙ f)
+
+pub values_able : (r : Room) (its : List Value) (xs : List Bool) (vs : List Value) (n : ℕ) → xs ≡ replicate n true → Able r its xs vs → (n ≤ length vs) × (needed xs ≡ n) × (filled r.blank xs vs ≡ take n vs)
+values_able r its xs vs n e able =
+    let k : needed xs ≡ n = ap needed e ∙ needed_values n in
+    let h : n ≤ length vs = omega (arith, able.0) in
+    (h, k, ap (λ t. filled r.blank t vs) e ∙ filled_values r.blank n vs h)
+
 -- stand-ins appended, where there is room for a run of null rows
 pub nulls_appended : (r : Room) (its its' : List Value) (xs : List Bool) (vs : List Value) (n : ℕ) → xs ≡ replicate n false → Able r its xs vs → its' ≡ joined r its (replicate n r.blank) → (its' ≡ its ++ filled r.blank xs vs) × (vs ≡ drop (needed xs) vs)
 nulls_appended r its its' xs vs n e able j =

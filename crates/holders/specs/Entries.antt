@@ -1,19 +1,18 @@
 -- One of the values that there are.
-use Rattle.std.specs.Prelude.{ℕ, zero, suc, ◌+◌, Bool, true, false, List, [], ◌∷◌, take, drop, Option}
+use Rattle.std.specs.Prelude.{ℕ, zero, suc, ◌+◌, Bool, true, false, List, [], ◌∷◌, take, drop, Some, None, Option}
 use Rattle.values.specs.Little.{little}
 use Rattle.std.specs.List.{slice_get}
 use Rattle.holders.specs.Judge.{some_then}
-use Rattle.holders.specs.declared.types.Numbers.{Numbers}
-use Rattle.holders.specs.declared.types.Numbers.TheVariants.{Packed, Repeated, Nothing}
+use Rattle.hybrid_rle.specs.Held.{piece_count}
+use Rattle.hybrid_rle.specs.declared.piece.Piece.{Piece}
 
 abbrev pub nth_in : {A : Type 0} → Option (List A) → ℕ → Option A
 nth_in o i = some_then o (λ es. slice_get es i)
 
 -- how many numbers the current run has left
-abbrev pub current_count : Numbers → ℕ
-current_count (Packed bs at n) = n
-current_count (Repeated v n) = n
-current_count Nothing = 0
+abbrev pub current_count : Option (Piece ℕ) → ℕ
+current_count (Some p) = piece_count p
+current_count None = 0
 
 -- the bytes that the first m values take, each after its length
 abbrev pub place : ℕ → List ℕ → ℕ

@@ -10,8 +10,8 @@ use Rattle.holders.specs.Judge.{some_then, parts, arrays_in, entries, chosen}
 use Rattle.holders.specs.declared.types.Form.{Form}
 use Rattle.holders.specs.declared.types.Form.TheVariants.{Four, Eight, Bits, Arrays}
 use Rattle.holders.specs.declared.types.Dict.{Dict}
-use Rattle.holders.specs.declared.types.Numbers.{Numbers}
-use Rattle.holders.specs.declared.types.Numbers.TheVariants.{Packed, Repeated, Nothing}
+use Rattle.hybrid_rle.specs.declared.piece.Piece.{Piece}
+use Rattle.hybrid_rle.specs.declared.piece.Piece.TheVariants.{Bitmap, Repeated}
 use Rattle.holders.specs.declared.types.Indices.{Indices}
 use Rattle.holders.specs.declared.types.Values.{Values}
 use Rattle.holders.specs.declared.types.Values.TheVariants.{Plain, Coded}
@@ -28,10 +28,10 @@ plain_left Bits n bs at = cond (nat_le (at + n) (min (8 * length bs) (2 ^ 26))) 
 plain_left Arrays n bs at = arrays_in n bs
 
 -- those of the current run, if its bytes have them
-abbrev pub current_numbers : ℕ → Numbers → Option (List ℕ)
-current_numbers w (Packed bs at n) = cond (nat_le (at + n * w) (min (8 * length bs.now) (2 ^ 26))) (Some (fields w n bs.now at)) None
-current_numbers w (Repeated v n) = Some (replicate n v)
-current_numbers w Nothing = Some []
+abbrev pub current_numbers : ℕ → Option (Piece ℕ) → Option (List ℕ)
+current_numbers w (Some (Bitmap bs at n)) = cond (nat_le (at + n * w) (min (8 * length bs.now) (2 ^ 26))) (Some (fields w n bs.now at)) None
+current_numbers w (Some (Repeated v n)) = Some (replicate n v)
+current_numbers w None = Some []
 
 abbrev pub ok_some : {A B : Type 0} → Result A B → Option A
 ok_some (Ok x) = Some x
@@ -42,7 +42,7 @@ abbrev pub numbers_left : Option (List ℕ) → Result (List (List ℕ)) Broken 
 numbers_left c r = some_then c (λ is. some_then (ok_some r) (λ xss. Some (is ++ flat_map (λ xs. xs) xss)))
 
 abbrev pub indices_left : Indices → Option (List ℕ)
-indices_left i = cond (nat_le i.w 32 && nat_le i.left 1048576) (numbers_left (current_numbers i.w i.current) (runs i.w (2 ^ 32 - 1) i.left i.rest.now)) None
+indices_left i = cond (nat_le i.runs.w 32 && nat_le i.runs.left 1048576) (numbers_left (current_numbers i.runs.w i.current) (runs i.runs.w (2 ^ 32 - 1) i.runs.left i.runs.rest.now)) None
 
 abbrev pub dict_entries : Form → Dict → Option (List (List ℕ))
 dict_entries f d = cond (nat_le d.entries 1048576) (entries f d.entries d.body.now) None

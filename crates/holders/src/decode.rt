@@ -4,12 +4,12 @@ ghost use Rattle.hybrid_rle.specs.Held.{rows, Inside};
 ghost use Rattle.hybrid_rle.specs.Cursor.{to_come};
 ghost use Rattle.hybrid_rle.specs.Rows.{flat};
 ghost use Rattle.values.specs.Values.{fits};
-ghost use Rattle.holders.specs.Filled.{Able, filled};
+ghost use Rattle.holders.specs.Filled.{Able, Fills, filled};
 
 use crate::cursor::Cursor;
-use crate::fill::{push_bits, push_same, push_values};
-use hybrid_rle::piece::rows_in;
-use hybrid_rle::validity::{OptionalPageValidity, Piece};
+use crate::fill::{push_bits, push_same};
+use hybrid_rle::piece::Piece;
+use hybrid_rle::validity::OptionalPageValidity;
 use sinks::pushable::{Pushable, Sink, Validity};
 
 // The rows of a piece into sink and validity.
@@ -17,15 +17,12 @@ pub(crate) fn push_piece<'p, C: Cursor, P: Pushable<C::Item>, V: Validity>(
     validity: &mut V,
     sink: &mut P,
     values: &mut C,
-    piece: Piece<'p>,
+    piece: Piece<'p, bool>,
 )
     requires inside { Inside (Some piece) }
     requires able { Able (P.Sink.room sink.old) (P.Sink.items sink.old) (rows piece) (C.Cursor.left values.old) }
     requires space { length (V.Validity.bits validity.old) + length (rows piece) ≤ V.Validity.room validity.old }
-    ensures items { P.Sink.items sink.new ≡ P.Sink.items sink.old ++ filled (P.Sink.room sink.old).blank (rows piece.entry) (C.Cursor.left values.old) }
-    ensures left { C.Cursor.left values.new ≡ drop (needed (rows piece.entry)) (C.Cursor.left values.old) }
-    ensures room { P.Sink.room sink.new ≡ P.Sink.room sink.old }
-    ensures home { P.Sink.home sink.new ≡ P.Sink.home sink.old }
+    ensures fills { Fills (rows piece.entry) (P.Sink.room sink.old) (P.Sink.home sink.old) (P.Sink.items sink.old) (C.Cursor.left values.old) (P.Sink.room sink.new) (P.Sink.home sink.new) (P.Sink.items sink.new) (C.Cursor.left values.new) }
     ensures bits { V.Validity.bits validity.new ≡ V.Validity.bits validity.old ++ rows piece.entry }
     ensures space { V.Validity.room validity.new ≡ V.Validity.room validity.old }
     ensures same { V.Validity.home validity.new ≡ V.Validity.home validity.old }
@@ -39,9 +36,9 @@ pub(crate) fn push_piece<'p, C: Cursor, P: Pushable<C::Item>, V: Validity>(
             push_bits(sink, values, bytes, offset, length);
             let _ = validity.extend_from_slice(bytes, offset, length);
         }
-        Piece::Repeated { is_set, length } => {
-            push_same(sink, values, is_set, length);
-            let _ = validity.extend_constant(length, is_set);
+        Piece::Repeated { value, length } => {
+            push_same(sink, values, value, length);
+            let _ = validity.extend_constant(length, value);
         }
     }
 }
@@ -71,24 +68,7 @@ pub(crate) fn extend_from_decoder<'p, C: Cursor, P: Pushable<C::Item>, V: Validi
         let Some(piece) = page.next_limited(limit - done) else {
             return unreachable();
         };
-        let n = rows_in(piece);
+        done += piece.len();
         push_piece(validity, sink, values, piece);
-        done += n;
     }
-}
-
-// The next `limit` values into the sink, of a page without nulls.
-pub(crate) fn extend_required<C: Cursor, P: Pushable<C::Item>>(
-    limit: usize,
-    sink: &mut P,
-    values: &mut C,
-)
-    requires some { limit ≤ length (C.Cursor.left values.old) }
-    requires fits { fits (P.Sink.room sink.old) (P.Sink.items sink.old ++ take limit (C.Cursor.left values.old)) ≡ true }
-    ensures items { P.Sink.items sink.new ≡ P.Sink.items sink.old ++ take limit (C.Cursor.left values.old) }
-    ensures left { C.Cursor.left values.new ≡ drop limit (C.Cursor.left values.old) }
-    ensures room { P.Sink.room sink.new ≡ P.Sink.room sink.old }
-    ensures home { P.Sink.home sink.new ≡ P.Sink.home sink.old }
-{
-    push_values(sink, values, limit);
 }

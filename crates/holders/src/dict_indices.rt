@@ -1,22 +1,18 @@
-ghost use Rattle.std.specs.Prelude.{◌≡◌, ◌<◌, ◌≤◌, true, length, is_some};
+ghost use Rattle.std.specs.Prelude.{◌≡◌, ◌<◌, true, length, is_some};
 ghost use Rattle.holders.specs.Judge as judge;
 ghost use Rattle.holders.specs.Left.{indices_left, or_none};
 ghost use Rattle.holders.specs.Entries.{current_count};
 
-use crate::types::{Indices, Numbers};
-use hybrid_rle::runs::{Run, next_run};
+use crate::types::Indices;
+use hybrid_rle::piece::Piece;
 use hybrid_rle::unpack::unpacked;
 
-impl<'a> Indices<'a> {
+impl Indices<'_> {
     // How many indices of the current run are left.
     fn current_len(&self) -> usize
         ensures { result ≡ current_count self.now.current }
     {
-        match self.current {
-            Numbers::Packed { length, .. } => length,
-            Numbers::Repeated { length, .. } => length,
-            Numbers::Nothing => 0,
-        }
+        self.current.map_or(0, |run| run.len())
     }
 
     // The next index of the current run.
@@ -24,48 +20,38 @@ impl<'a> Indices<'a> {
         requires { (is_some (indices_left self.old) ≡ true) × (0 < current_count self.old.current) }
         ensures { judge.put result (indices_left self.new) ≡ indices_left self.old }
     {
-        let w = self.w;
-        match &mut self.current {
-            Numbers::Packed { bytes, at, length } => {
-                let v = unpacked(*bytes, w, *at);
-                *at += w as usize;
+        let w = self.runs.w;
+        let Some(run) = &mut self.current else {
+            return unreachable();
+        };
+        match run {
+            Piece::Bitmap {
+                bytes,
+                offset,
+                length,
+            } => {
+                let v = unpacked(*bytes, w, *offset);
+                *offset += w as usize;
                 *length -= 1;
                 v
             }
-            Numbers::Repeated { value, length } => {
+            Piece::Repeated { value, length } => {
                 *length -= 1;
                 *value
             }
-            Numbers::Nothing => unreachable(),
         }
     }
 
     // The next run becomes the current one.
     fn load(&mut self)
-        requires { (is_some (indices_left self.old) ≡ true) × ((current_count self.old.current ≡ 0) × (0 < self.old.left)) }
+        requires { (is_some (indices_left self.old) ≡ true) × ((current_count self.old.current ≡ 0) × (0 < self.old.runs.left)) }
         ensures same { indices_left self.new ≡ indices_left self.old }
-        ensures shorter { length self.new.rest.now < length self.old.rest.now }
+        ensures shorter { length self.new.runs.rest.now < length self.old.runs.rest.now }
     {
-        let Ok((run, rest)) = next_run(self.rest, self.w) else {
-            return unreachable();
-        };
-        match run {
-            Run::Bitmap { bytes, length } => {
-                let length = length.min(self.left);
-                self.current = Numbers::Packed {
-                    bytes,
-                    at: 0,
-                    length,
-                };
-                self.left -= length;
-                self.rest = rest;
-            }
-            Run::Repeated { value, length } => {
-                let length = length.min(self.left);
-                self.current = Numbers::Repeated { value, length };
-                self.left -= length;
-                self.rest = rest;
-            }
+        match self.runs.next() {
+            Ok(Some(run)) => self.current = Some(Piece::from(run)),
+            Ok(None) => unreachable(),
+            Err(_) => unreachable(),
         }
     }
 

@@ -1,7 +1,8 @@
-ghost use Rattle.std.specs.Prelude.{◌≡◌, ℕ, ◌+◌, ◌*◌, ◌^◌, ◌<◌, ◌≤◌, Bool, true, cond, List, [], ◌∷◌, ◌++◌, length, drop, replicate};
+ghost use Rattle.std.specs.Prelude.{◌≡◌, ℕ, ◌+◌, ◌*◌, ◌^◌, ◌<◌, ◌≤◌, Bool, true, cond, List, [], ◌∷◌, ◌++◌, length, take, drop, replicate};
 ghost use Rattle.hybrid_rle.specs.Rows.{bits};
+ghost use Rattle.values.specs.Values.{fits};
 ghost use Rattle.holders.specs.Judge.{needed};
-ghost use Rattle.holders.specs.Filled.{Able, filled};
+ghost use Rattle.holders.specs.Filled.{Able, Fills};
 
 use crate::cursor::Cursor;
 use bitmap::utils::get_bit;
@@ -10,10 +11,7 @@ use sinks::pushable::{Pushable, Sink};
 // One row into the sink: the next value, or a stand-in.
 pub(crate) fn push_row<C: Cursor, P: Pushable<C::Item>>(sink: &mut P, values: &mut C, present: bool)
     requires { Able (P.Sink.room sink.old) (P.Sink.items sink.old) (present ∷ []) (C.Cursor.left values.old) }
-    ensures items { P.Sink.items sink.new ≡ P.Sink.items sink.old ++ filled (P.Sink.room sink.old).blank (present ∷ []) (C.Cursor.left values.old) }
-    ensures left { C.Cursor.left values.new ≡ drop (needed (present ∷ [])) (C.Cursor.left values.old) }
-    ensures room { P.Sink.room sink.new ≡ P.Sink.room sink.old }
-    ensures home { P.Sink.home sink.new ≡ P.Sink.home sink.old }
+    ensures { Fills (present ∷ []) (P.Sink.room sink.old) (P.Sink.home sink.old) (P.Sink.items sink.old) (C.Cursor.left values.old) (P.Sink.room sink.new) (P.Sink.home sink.new) (P.Sink.items sink.new) (C.Cursor.left values.new) }
 {
     if present {
         match values.next() {
@@ -27,15 +25,20 @@ pub(crate) fn push_row<C: Cursor, P: Pushable<C::Item>>(sink: &mut P, values: &m
     }
 }
 
-// The next n values into the sink.
-pub(crate) fn push_values<C: Cursor, P: Pushable<C::Item>>(sink: &mut P, values: &mut C, n: usize)
-    requires { Able (P.Sink.room sink.old) (P.Sink.items sink.old) (replicate n true) (C.Cursor.left values.old) }
-    ensures items { P.Sink.items sink.new ≡ P.Sink.items sink.old ++ filled (P.Sink.room sink.old).blank (replicate n true) (C.Cursor.left values.old) }
-    ensures left { C.Cursor.left values.new ≡ drop (needed (replicate n true)) (C.Cursor.left values.old) }
+// The next `limit` values into the sink, of a page without nulls.
+pub(crate) fn extend_required<C: Cursor, P: Pushable<C::Item>>(
+    limit: usize,
+    sink: &mut P,
+    values: &mut C,
+)
+    requires some { limit ≤ length (C.Cursor.left values.old) }
+    requires fits { fits (P.Sink.room sink.old) (P.Sink.items sink.old ++ take limit (C.Cursor.left values.old)) ≡ true }
+    ensures items { P.Sink.items sink.new ≡ P.Sink.items sink.old ++ take limit (C.Cursor.left values.old) }
+    ensures left { C.Cursor.left values.new ≡ drop limit (C.Cursor.left values.old) }
     ensures room { P.Sink.room sink.new ≡ P.Sink.room sink.old }
     ensures home { P.Sink.home sink.new ≡ P.Sink.home sink.old }
 {
-    for i in 0..n {
+    for _i in 0..limit {
         push_row(sink, values, true);
     }
 }
@@ -50,10 +53,7 @@ pub(crate) fn push_bits<C: Cursor, P: Pushable<C::Item>>(
 )
     requires near { offset + n < 2 ^ 64 }
     requires able { Able (P.Sink.room sink.old) (P.Sink.items sink.old) (bits bytes.now offset n) (C.Cursor.left values.old) }
-    ensures items { P.Sink.items sink.new ≡ P.Sink.items sink.old ++ filled (P.Sink.room sink.old).blank (bits bytes.now offset n) (C.Cursor.left values.old) }
-    ensures left { C.Cursor.left values.new ≡ drop (needed (bits bytes.now offset n)) (C.Cursor.left values.old) }
-    ensures room { P.Sink.room sink.new ≡ P.Sink.room sink.old }
-    ensures home { P.Sink.home sink.new ≡ P.Sink.home sink.old }
+    ensures { Fills (bits bytes.now offset n) (P.Sink.room sink.old) (P.Sink.home sink.old) (P.Sink.items sink.old) (C.Cursor.left values.old) (P.Sink.room sink.new) (P.Sink.home sink.new) (P.Sink.items sink.new) (C.Cursor.left values.new) }
 {
     for i in 0..n {
         let present = get_bit(bytes, offset + i);
@@ -69,13 +69,10 @@ pub(crate) fn push_same<C: Cursor, P: Pushable<C::Item>>(
     n: usize,
 )
     requires { Able (P.Sink.room sink.old) (P.Sink.items sink.old) (replicate n present) (C.Cursor.left values.old) }
-    ensures items { P.Sink.items sink.new ≡ P.Sink.items sink.old ++ filled (P.Sink.room sink.old).blank (replicate n present) (C.Cursor.left values.old) }
-    ensures left { C.Cursor.left values.new ≡ drop (needed (replicate n present)) (C.Cursor.left values.old) }
-    ensures room { P.Sink.room sink.new ≡ P.Sink.room sink.old }
-    ensures home { P.Sink.home sink.new ≡ P.Sink.home sink.old }
+    ensures { Fills (replicate n present) (P.Sink.room sink.old) (P.Sink.home sink.old) (P.Sink.items sink.old) (C.Cursor.left values.old) (P.Sink.room sink.new) (P.Sink.home sink.new) (P.Sink.items sink.new) (C.Cursor.left values.new) }
 {
     if present {
-        push_values(sink, values, n);
+        extend_required(n, sink, values);
     } else {
         let _ = sink.push_nulls(n);
     }

@@ -6,9 +6,8 @@ ghost use Rattle.values.specs.Values.{weights};
 ghost use Rattle.holders.specs.Judge.{needed};
 
 use crate::cursor::Cursor;
-use bitmap::utils::get_bit;
-use hybrid_rle::piece::rows_in;
-use hybrid_rle::validity::{OptionalPageValidity, Piece};
+use crate::present::present_in;
+use hybrid_rle::validity::OptionalPageValidity;
 use values::Valued;
 
 // Whether the next n values take no more than `most` bytes. It stops at the first that does not fit, so that no sum can overflow.
@@ -30,33 +29,6 @@ pub(crate) fn weigh_within<C: Cursor>(values: &mut C, n: usize, most: usize) -> 
     true
 }
 
-// How many of n bits from bit `offset` on are set.
-fn ones_from(bytes: &[u8], offset: usize, n: usize) -> usize
-    requires { offset + n < 2 ^ 64 }
-    ensures { result ≡ needed (bits bytes.now offset n) }
-{
-    let mut count = 0;
-    for i in 0..n {
-        count += get_bit(bytes, offset + i) as usize;
-    }
-    count
-}
-
-// How many rows of a piece are present.
-fn present_in(piece: Piece<'_>) -> usize
-    requires { Inside (Some piece) }
-    ensures { result ≡ needed (rows piece.entry) }
-{
-    match piece {
-        Piece::Bitmap {
-            bytes,
-            offset,
-            length,
-        } => ones_from(bytes, offset, length),
-        Piece::Repeated { is_set, length } => { if is_set { length } else { 0 } }
-    }
-}
-
 // How many of the next `limit` rows are present.
 pub(crate) fn count_present<'p>(page: &mut OptionalPageValidity<'p>, limit: usize) -> usize
     requires { limit ≤ length (flat (to_come page.old)) }
@@ -68,10 +40,8 @@ pub(crate) fn count_present<'p>(page: &mut OptionalPageValidity<'p>, limit: usiz
         let Some(piece) = page.next_limited(limit - done) else {
             return unreachable();
         };
-        let n = rows_in(piece);
-        let k = present_in(piece);
-        done += n;
-        count += k;
+        done += piece.len();
+        count += present_in(piece);
     }
     count
 }

@@ -7,10 +7,10 @@ ghost use Rattle.faults.specs.declared.types.Cause.TheVariants.{Values as values
 use crate::arrays::arrays_fit;
 use crate::checks::{bits_fit, fixed_fits};
 use crate::indices::indices_below;
-use crate::types::{Dict, Form, Indices, Numbers, Values};
+use crate::types::{Dict, Form, Indices, Values};
 use faults::types::Cause;
 use hybrid_rle::header::Broken;
-use hybrid_rle::runs::check;
+use hybrid_rle::runs::{Runs, check};
 
 // What was found broken, as the cause given.
 pub(crate) fn caused<T>(r: Result<T, Broken>, cause: Cause) -> Result<T, Cause>
@@ -74,10 +74,8 @@ fn coded<'a>(form: Form, dict: Dict<'a>, n: usize, bytes: &'a [u8]) -> Result<Va
     Ok(Values::Coded {
         dict,
         indices: Indices {
-            w,
-            current: Numbers::Nothing,
-            rest,
-            left: n,
+            runs: Runs { w, rest, left: n },
+            current: None,
         },
     })
 }

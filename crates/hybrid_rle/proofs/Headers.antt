@@ -39,24 +39,24 @@ after_above low d k (Ok p) =
     cc
 after_above low d k (Err e) = refl
 
-module _ (bs : List ℕ) (most k low : ℕ) (few : most ≤ 10) (small : k < most) (inside : k < length bs) (byte : get_or bs k 0 < 256) (so : number most bs ≡ after low k (number (most - k) (drop k bs))) where
-  here : number (most - k) (drop k bs) ≡ cond (ltb (get_or bs k 0) 128) (Ok (get_or bs k 0, 1)) (above (get_or bs k 0 - 128) (number (most - (k + 1)) (drop (k + 1) bs)))
-  here = let e : most - k ≡ suc (most - (k + 1)) = omega arith in rw e (number_at (most - (k + 1)) bs k inside)
+module _ (bs : List ℕ) (most k low b : ℕ) (few : most ≤ 10) (small : k < most) (inside : k < length bs) (is : b ≡ get_or bs k 0) (byte : b < 256) (so : number most bs ≡ after low k (number (most - k) (drop k bs))) where
+  here : number (most - k) (drop k bs) ≡ cond (ltb b 128) (Ok (b, 1)) (above (b - 128) (number (most - (k + 1)) (drop (k + 1) bs)))
+  here = let e : most - k ≡ suc (most - (k + 1)) = omega arith in rw (e, is) (number_at (most - (k + 1)) bs k inside)
 
-  pub last_digit : get_or bs k 0 < 128 → number most bs ≡ Ok (low + (bit_and (get_or bs k 0) 127 * 2 ^ (7 * k)) % 340282366920938463463374607431768211456, k + 1)
+  pub last_digit : b < 128 → number most bs ≡ Ok (low + (bit_and b 127 * 2 ^ (7 * k)) % 340282366920938463463374607431768211456, k + 1)
   last_digit h =
-      let p = placed (get_or bs k 0) k (omega arith) in
-      let t : ltb (get_or bs k 0) 128 ≡ true = grind (arith, nat_tests) in
-      let e : get_or bs k 0 % 128 ≡ get_or bs k 0 = omega arith in
-      let m = mul_comm (get_or bs k 0) (2 ^ (7 * k)) in
+      let p = placed b k (omega arith) in
+      let t : ltb b 128 ≡ true = grind (arith, nat_tests) in
+      let e : b % 128 ≡ b = omega arith in
+      let m = mul_comm b (2 ^ (7 * k)) in
       so ∙ rw (here, t, p, e, m) refl
 
-  pub more_digits : 128 ≤ get_or bs k 0 → number most bs ≡ after (low + (bit_and (get_or bs k 0) 127 * 2 ^ (7 * k)) % 340282366920938463463374607431768211456) (k + 1) (number (most - (k + 1)) (drop (k + 1) bs))
+  pub more_digits : 128 ≤ b → number most bs ≡ after (low + (bit_and b 127 * 2 ^ (7 * k)) % 340282366920938463463374607431768211456) (k + 1) (number (most - (k + 1)) (drop (k + 1) bs))
   more_digits h =
-      let p = placed (get_or bs k 0) k (omega arith) in
-      let t : ltb (get_or bs k 0) 128 ≡ false = grind (arith, nat_tests) in
-      let e : get_or bs k 0 % 128 ≡ get_or bs k 0 - 128 = omega arith in
-      so ∙ rw (here, t, p, e) (after_above low (get_or bs k 0 - 128) k (number (most - (k + 1)) (drop (k + 1) bs)))
+      let p = placed b k (omega arith) in
+      let t : ltb b 128 ≡ false = grind (arith, nat_tests) in
+      let e : b % 128 ≡ b - 128 = omega arith in
+      so ∙ rw (here, t, p, e) (after_above low (b - 128) k (number (most - (k + 1)) (drop (k + 1) bs)))
 
 pub digits_below : (b k low : ℕ) → k < 10 → low < 2 ^ (7 * k) → low + (bit_and b 127 * 2 ^ (7 * k)) % 340282366920938463463374607431768211456 < 2 ^ (7 * (k + 1))
 digits_below b k low h l =

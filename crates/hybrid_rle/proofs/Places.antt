@@ -1,9 +1,9 @@
 -- Bits of bytes as digits of one number.
-use Rattle.std.proofs.Common.{◌≡◌, ℕ, zero, suc, ◌+◌, ◌-◌, ◌*◌, ◌/◌, ◌%◌, ◌^◌, ◌<◌, ◌≤◌, min, true, false, ◌&&◌, ltb, leb, List, [], ◌∷◌, get_or, take, drop, sym, refl, ap, ◌∙◌, ⊎_elim, mul-le-mul_right, mul_comm, add-mul, add-one, arith, pow_mono, le-ltb, lt-ltb}
-use native.Mathlib.Nat.{zero-div, mod-one}
+use Rattle.std.proofs.Common.{◌≡◌, ℕ, zero, suc, ◌+◌, ◌-◌, ◌*◌, ◌/◌, ◌%◌, ◌^◌, ◌<◌, ◌≤◌, min, true, false, ◌&&◌, ltb, leb, List, [], ◌∷◌, length, get_or, take, drop, sym, refl, ap, ◌∙◌, ⊎_elim, mul_comm, add-one, arith, lt-ltb}
+use native.Mathlib.Nat.{zero-div, zero-mod, div-one, mod-one, zero-min, min-zero, suc-min-suc}
 use Rattle.std.proofs.lemmas.Bool.Decides.{leb_tells}
 use Rattle.std.proofs.lemmas.List.{get_or-drop}
-use Rattle.std.proofs.lemmas.Nat.{shr-shr, mod-pow-add, field_of, one_shl, and_mask, mod_below, pow_pos}
+use Rattle.std.proofs.lemmas.Nat.{shr-shr, mod-pow-add, field_of, one_shl, and_mask}
 use lib.Bits.{bit_and}
 use lib.Pow.{mod-mod-pow}
 use Rattle.hybrid_rle.specs.Runs.{bit, field, fields, all_below}
@@ -63,52 +63,53 @@ field_is (suc w) bs at h =
     let c = mul_comm 2 ((little bs / 2 ^ (at + 1)) % 2 ^ w) in
     rw (bit_is bs at h, field_is w bs (at + 1) h, sym (add-one w), m, x) (omega arith)
 
-little_five : (xs : List ℕ) → Bytes xs → little (take 5 xs) ≡ little xs % 2 ^ 40
-little_five [] h = refl
-little_five (a ∷ []) h = let p = h 0 in omega arith
-little_five (a ∷ b ∷ []) h = let p = h 0 in let q = h 1 in omega arith
-little_five (a ∷ b ∷ c ∷ []) h = let p = h 0 in let q = h 1 in let r = h 2 in omega arith
-little_five (a ∷ b ∷ c ∷ d ∷ []) h = let p = h 0 in let q = h 1 in let r = h 2 in let s = h 3 in omega arith
-little_five (a ∷ b ∷ c ∷ d ∷ e ∷ xs) h = let p = h 0 in let q = h 1 in let r = h 2 in let s = h 3 in let t = h 4 in omega arith
+pub little_take : (k : ℕ) (xs : List ℕ) → Bytes xs → little (take k xs) ≡ little xs % 2 ^ (8 * k)
+little_take zero xs h = sym (mod-one (little xs))
+little_take (suc k) [] h = sym (zero-mod (2 ^ (8 * suc k)))
+little_take (suc k) (b ∷ xs) h =
+    let e : 8 * suc k ≡ 8 * k + 8 = omega arith in
+    let l = h 0 in
+    let q : (b + 256 * little xs) / 2 ^ 8 ≡ little xs = omega arith in
+    let r : (b + 256 * little xs) % 2 ^ 8 ≡ b = omega arith in
+    let i = little_take k xs (λ i. h (suc i)) in
+    rw (e, mod-pow-add (b + 256 * little xs) (8 * k) 8, q, r, i) (omega arith)
 
-part_is : (y s w : ℕ) → s + w ≤ 40 → (y % 2 ^ 40) / 2 ^ s % 2 ^ w ≡ y / 2 ^ s % 2 ^ w
+part_is : (y s w : ℕ) → s + w ≤ 64 → (y % 2 ^ 64) / 2 ^ s % 2 ^ w ≡ y / 2 ^ s % 2 ^ w
 part_is y s w h =
-    let j : 40 ≡ (40 - s) + s = omega arith in
-    let k : 40 - s ≡ (40 - s - w) + w = omega arith in
-    ap (λ n. (y % 2 ^ n) / 2 ^ s % 2 ^ w) j ∙ ap (λ n. n % 2 ^ w) (field_of y (40 - s) s) ∙ ap (λ n. y / 2 ^ s % 2 ^ n % 2 ^ w) k ∙ mod-mod-pow (y / 2 ^ s) (40 - s - w) w
+    let j : 64 ≡ (64 - s) + s = omega arith in
+    let k : 64 - s ≡ (64 - s - w) + w = omega arith in
+    ap (λ n. (y % 2 ^ n) / 2 ^ s % 2 ^ w) j ∙ ap (λ n. n % 2 ^ w) (field_of y (64 - s) s) ∙ ap (λ n. y / 2 ^ s % 2 ^ n % 2 ^ w) k ∙ mod-mod-pow (y / 2 ^ s) (64 - s - w) w
 
--- five bytes suffice
-pub five_bytes : (bs : List ℕ) (w at : ℕ) → Bytes bs → w ≤ 32 → little (take 5 (drop (at / 8) bs)) / 2 ^ (at % 8) % 2 ^ w ≡ field w bs at
-five_bytes bs w at h l =
+-- eight bytes suffice
+pub eight_bytes : (bs : List ℕ) (w at : ℕ) → Bytes bs → w ≤ 32 → little (take 8 (drop (at / 8) bs)) / 2 ^ (at % 8) % 2 ^ w ≡ field w bs at
+eight_bytes bs w at h l =
     let d : Bytes (drop (at / 8) bs) = λ i. rw get_or-drop (h (at / 8 + i)) in
     let e : at ≡ 8 * (at / 8) + at % 8 = omega arith in
-    let s : at % 8 + w ≤ 40 = omega arith in
+    let s : at % 8 + w ≤ 64 = omega arith in
     let x : little bs / 2 ^ (8 * (at / 8)) / 2 ^ (at % 8) ≡ little bs / 2 ^ at = shr-shr (little bs) (8 * (at / 8)) (at % 8) ∙ ap (λ n. little bs / 2 ^ n) (sym e) in
-    rw (little_five (drop (at / 8) bs) d, part_is (little (drop (at / 8) bs)) (at % 8) w s, little_drop (at / 8) bs h, x, field_is w bs at h) refl
+    rw (little_take 8 (drop (at / 8) bs) d, part_is (little (drop (at / 8) bs)) (at % 8) w s, little_drop (at / 8) bs h, x, field_is w bs at h) refl
+
+-- a place past the end
+pub drop_min : (n : ℕ) (bs : List ℕ) → drop (min n (length bs)) bs ≡ drop n bs
+drop_min zero bs = rw zero-min refl
+drop_min (suc n) [] = rw min-zero refl
+drop_min (suc n) (b ∷ bs) = rw suc-min-suc (drop_min n bs)
+
+-- the number of 32 bits at the front
+pub first_four : (bs : List ℕ) → Bytes bs → field 32 bs 0 ≡ little (take 4 bs)
+first_four bs h = field_is 32 bs 0 h ∙ rw (little_take 4 bs h, div-one (little bs)) refl
 
 -- the mask of w bits
 pub masked : (x w : ℕ) → w ≤ 32 → bit_and x ((1 * 2 ^ w) % 18446744073709551616 - 1) ≡ x % 2 ^ w
 masked x w h = let o : (1 * 2 ^ w) % 18446744073709551616 ≡ 2 ^ w = one_shl w 64 (omega arith) in rw o (and_mask x w)
-
-pub masked_fits : (x w : ℕ) → w ≤ 32 → bit_and x ((1 * 2 ^ w) % 18446744073709551616 - 1) < 2 ^ 32
-masked_fits x w h =
-    let m = mod_below x (2 ^ w) (pow_pos w) in
-    let p : 2 ^ w ≤ 2 ^ 32 = pow_mono h in
-    rw (masked x w h) (omega arith)
 
 -- one number on, in a loop over the places of a packed run
 module _ (top w n i : ℕ) (bs : List ℕ) (at : ℕ) (small : i < n) where
   below_step : all_below top (fields w (n - i) bs at) ≡ (ltb (field w bs at) top && all_below top (fields w (n - (i + 1)) bs (at + w)))
   below_step = let e : n - i ≡ suc (n - (i + 1)) = omega arith in rw e refl
 
-  pub below_stops : (v : ℕ) → v ≡ field w bs at → top ≤ v → false ≡ all_below top (fields w (n - i) bs at)
-  below_stops v e h = let t : ltb (field w bs at) top ≡ false = le-ltb (field w bs at) top (omega arith) in sym (below_step ∙ rw t refl)
-
   pub below_goes : (v : ℕ) → v ≡ field w bs at → v < top → all_below top (fields w (n - i) bs at) ≡ all_below top (fields w (n - (i + 1)) bs (at + w))
   below_goes v e h = let t : ltb (field w bs at) top ≡ true = lt-ltb (field w bs at) top (omega arith) in below_step ∙ rw t refl
-
-  pub place_fits : at ≡ i * w → at + w ≤ n * w
-  place_fits e = let m : (i + 1) * w ≤ n * w = mul-le-mul_right w (omega arith) in omega (arith, add-mul i 1 w)
 
 -- a width of at most 32 is taken as it is
 pub small_width : (w : ℕ) (bs : List ℕ) (at : ℕ) → w ≤ 32 → field (min w 32) bs at ≡ field w bs at

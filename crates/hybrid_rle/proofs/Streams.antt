@@ -1,10 +1,11 @@
 -- Laws of streams of runs.
-use Rattle.std.proofs.Common.{◌≡◌, ℕ, zero, suc, ◌+◌, ◌-◌, ◌*◌, ◌/◌, ◌%◌, ◌^◌, ◌<◌, ◌≤◌, Bool, true, false, cond, eqb, ltb, leb, List, [], ◌∷◌, length, take, drop, Ok, Err, Result, sym, refl, ap, ◌∙◌, arith, length-append, length-drop, length-take}
+use Rattle.std.proofs.Common.{◌≡◌, ℕ, zero, suc, ◌+◌, ◌-◌, ◌*◌, ◌/◌, ◌%◌, ◌^◌, ◌<◌, ◌≤◌, min, Bool, true, false, cond, eqb, ltb, leb, List, [], ◌∷◌, length, take, drop, replicate, Some, None, Ok, Err, Result, sym, refl, ap, ◌∙◌, subst, mul-le-mul_right, mul_assoc, mul_comm, arith, length-append, length-drop, length-take, leb-true}
+use native.Mathlib.Nat.{min-zero, zero-min, suc-min-suc}
 use lib.ListN.{length-replicate}
 use Rattle.std.specs.List.{flat_map}
 use Rattle.std.proofs.lemmas.Bool.{le-leb}
 use Rattle.hybrid_rle.specs.Header.{Read, above, number, fitting, header}
-use Rattle.hybrid_rle.specs.Runs.{One, Stretch, packed, repeated, fields, cut, run_of, run, onto, ahead, allowed, numbers, count, runs_by, runs, sound, run_at, sound_at}
+use Rattle.hybrid_rle.specs.Runs.{One, Stretch, packed, repeated, fields, cut, run_of, run, onto, ahead, allowed, numbers, count, field, upto, Step, step, runs_by, runs, sound, run_at, sound_at}
 use Rattle.values.specs.Little.{little}
 use Rattle.hybrid_rle.specs.declared.header.Broken.{Broken}
 use Rattle.hybrid_rle.specs.declared.header.Broken.TheVariants.{Short, Above, Large}
@@ -77,21 +78,105 @@ module _ (w top : ℕ) where
   runs_more n (b ∷ bs) =
       onto_same (run w (b ∷ bs)) _ _ (λ x e. let l = run_shorter w (b ∷ bs) x e in ap (λ r. cond (allowed top x.0) (ahead (take (suc n) (numbers w x.0)) r) (Err Above)) (fuel_same (suc n - count x.0) (length bs) (length x.1) x.1 (omega arith) (omega arith)))
 
-sound_ahead : (xs : List ℕ) (r : Result (List (List ℕ)) Broken) → sound (ahead xs r) ≡ sound r
-sound_ahead xs (Ok x) = refl
-sound_ahead xs (Err e) = refl
+-- a width of at most 32 is not refused
+pub run_at_small : (w : ℕ) (bs : List ℕ) → w ≤ 32 → run_at w bs ≡ run w bs
+run_at_small w bs h = rw (le-leb w 32 h)
 
--- one run on
-pub sound_more : (w top n : ℕ) (bs : List ℕ) (r : Stretch) (rest : List ℕ) (len left : ℕ) → 0 < n → Ok (r, rest) ≡ run w bs → allowed top r ≡ true → len ≡ count r → left ≡ n - len → sound (runs w top n bs) ≡ sound (runs w top left rest)
-sound_more w top zero bs r rest len left h e a l m = absurd (omega arith)
-sound_more w top (suc n) bs r rest len left h e a l m = ap sound (runs_more w top n bs) ∙ rw (sym e, a, m, l) (sound_ahead (take (suc n) (numbers w r)) (runs w top (suc n - count r) rest))
+pub sound_at_small : {X : Type 0} (w : ℕ) (r : Result X Broken) → w ≤ 32 → sound_at w r ≡ sound r
+sound_at_small w r h = rw (le-leb w 32 h)
+
+-- a packed run has its bits
+abbrev pub Roomy : ℕ → Stretch → Type 0
+Roomy w (packed xs m) = m * w ≤ 8 * length xs
+Roomy w (repeated v m) = Unit {0}
+
+abbrev RoomyOne : ℕ → One → Type 0
+RoomyOne w (Ok p) = Roomy w p.0
+RoomyOne w (Err e) = Unit {0}
+
+eight : (q w l : ℕ) → l ≡ q * w → q * 8 * w ≤ 8 * l
+eight q w l e = let a = mul_assoc q 8 w in let b = mul_comm 8 w in let d = mul_assoc q w 8 in let f = mul_comm (q * w) 8 in rw e (omega (arith, a, b, ap (λ x. q * x) b, d, f))
+
+roomy_run_of : (w : ℕ) (bs : List ℕ) (r : Read) → RoomyOne w (run_of w bs r)
+roomy_run_of w bs (Err e) = tt
+roomy_run_of w bs (Ok p) =
+    elim (eqb (p.0 % 2) 1) as (λ t. RoomyOne w (cond t (cut (p.0 / 2 * w) (λ xs. packed xs (p.0 / 2 * 8)) (drop p.1 bs)) (cut ((w + 7) / 8) (λ xs. repeated (little xs) (p.0 / 2)) (drop p.1 bs)))) [
+      | true ↦ go (leb (p.0 / 2 * w) (length (drop p.1 bs))) refl
+      | false ↦ elim (leb ((w + 7) / 8) (length (drop p.1 bs))) as (λ t. RoomyOne w (cond t (Ok (repeated (little (take ((w + 7) / 8) (drop p.1 bs))) (p.0 / 2), drop ((w + 7) / 8) (drop p.1 bs))) (Err Short))) [ true ↦ tt | false ↦ tt ]
+    ]
+  where
+    go : (t : Bool) → leb (p.0 / 2 * w) (length (drop p.1 bs)) ≡ t → RoomyOne w (cond t (Ok (packed (take (p.0 / 2 * w) (drop p.1 bs)) (p.0 / 2 * 8), drop (p.0 / 2 * w) (drop p.1 bs))) (Err Short))
+    go true e = eight (p.0 / 2) w _ (length-take (p.0 / 2 * w) (drop p.1 bs) ∙ omega (arith, leb-true _ _ e))
+    go false e = tt
+
+roomy_run : (w : ℕ) (bs : List ℕ) (p : Stretch × List ℕ) → run w bs ≡ Ok p → Roomy w p.0
+roomy_run w bs p e = let r = roomy_run_of w bs (header bs) in rw e at r
+
+-- a run up to its nth number
+take_fields : (w m : ℕ) (bs : List ℕ) (at n : ℕ) → take n (fields w m bs at) ≡ fields w (min m n) bs at
+take_fields w m bs at zero = rw min-zero refl
+take_fields w zero bs at (suc n) = rw zero-min refl
+take_fields w (suc m) bs at (suc n) = rw suc-min-suc (ap {B = List ℕ} (λ r. field w bs at ∷ r) (take_fields w m bs (at + w) n))
+
+take_replicate : (v m n : ℕ) → take n (replicate m v) ≡ replicate (min m n) v
+take_replicate v m zero = rw min-zero refl
+take_replicate v zero (suc n) = rw zero-min refl
+take_replicate v (suc m) (suc n) = rw suc-min-suc (ap {B = List ℕ} (λ r. v ∷ r) (take_replicate v m n))
+
+numbers_upto : (w n : ℕ) (r : Stretch) → take n (numbers w r) ≡ numbers w (upto n r)
+numbers_upto w n (packed bs m) = take_fields w m bs 0 n
+numbers_upto w n (repeated v m) = take_replicate v m n
+
+allowed_upto : (top n : ℕ) (r : Stretch) → allowed top r ≡ allowed top (upto n r)
+allowed_upto top n (packed bs m) = refl
+allowed_upto top n (repeated v m) = refl
+
+count_upto : (n : ℕ) (r : Stretch) → n - count r + count (upto n r) ≡ n
+count_upto n (packed bs m) = omega arith
+count_upto n (repeated v m) = omega arith
+
+roomy_upto : (w n : ℕ) (r : Stretch) → Roomy w r → Roomy w (upto n r)
+roomy_upto w n (packed bs m) h = let l : min m n * w ≤ m * w = mul-le-mul_right w (omega arith) in omega arith
+roomy_upto w n (repeated v m) h = tt
+
+-- what a step says of the stream, whatever the largest number allowed
+abbrev pub Stepped : ℕ → ℕ → ℕ → List ℕ → Step → Type 0
+Stepped w top n bs (Ok (Some p)) =
+    (runs w top n bs ≡ cond (allowed top p.0) (ahead (numbers w p.0) (runs w top p.1 p.2)) (Err Above))
+    × (length p.2 < length bs)
+    × (p.1 + count p.0 ≡ n)
+    × Roomy w p.0
+Stepped w top n bs (Ok None) = n ≡ 0
+Stepped w top n bs (Err e) = (runs w top n bs ≡ Err e) × (0 < n)
+
+pub stepped_is : (w top n : ℕ) (bs : List ℕ) → w ≤ 32 → Stepped w top n bs (step w n bs)
+stepped_is w top zero bs h = refl
+stepped_is w top (suc n) bs h = rw (run_at_small w bs h) (on (run w bs) refl)
+  where
+    on : (o : One) → run w bs ≡ o → Stepped w top (suc n) bs (onto o (λ p. Ok (Some (upto (suc n) p.0, suc n - count p.0, p.1))))
+    on (Ok p) e = (
+      runs_more w top n bs ∙ rw (e, numbers_upto w (suc n) p.0, allowed_upto top (suc n) p.0) refl,
+      run_shorter w bs p e,
+      count_upto (suc n) p.0,
+      roomy_upto w (suc n) p.0 (roomy_run w bs p e),
+    )
+    on (Err x) e = (runs_more w top n bs ∙ rw e refl, omega arith)
+
+-- the same of a step that was taken by this width
+pub stepped_at : (w top n : ℕ) (bs : List ℕ) (k : ℕ) (s : Step) → w ≤ 32 → k ≡ w → s ≡ step k n bs → Stepped w top n bs s
+stepped_at w top n bs k s h e is = subst (Stepped w top n bs) (sym (is ∙ ap (λ j. step j n bs) e)) (stepped_is w top n bs h)
+
+pub sound_ahead : (t : Bool) (xs : List ℕ) (r : Result (List (List ℕ)) Broken) → t ≡ true → sound (cond t (ahead xs r) (Err Above)) ≡ sound r
+sound_ahead true xs (Ok x) h = refl
+sound_ahead true xs (Err e) h = refl
+sound_ahead false xs r h = absurd (grind arith)
 
 -- a stream gives as many numbers as are asked for
 pub length_fields : (w n : ℕ) (bs : List ℕ) (at : ℕ) → length (fields w n bs at) ≡ n
 length_fields w zero bs at = refl
 length_fields w (suc n) bs at = ap suc (length_fields w n bs (at + w))
 
-length_numbers : (w : ℕ) (r : Stretch) → length (numbers w r) ≡ count r
+pub length_numbers : (w : ℕ) (r : Stretch) → length (numbers w r) ≡ count r
 length_numbers w (packed bs n) = length_fields w n bs 0
 length_numbers w (repeated v n) = length-replicate n v
 
@@ -116,10 +201,3 @@ counts_by w top zero fuel bs = refl
 counts_by w top (suc n) zero bs = tt
 counts_by w top (suc n) (suc fuel) bs =
     counts_onto (suc n) (run w bs) _ (λ p. counts_test (suc n) (allowed top p.0) _ (counts_ahead (suc n) (count p.0) (numbers w p.0) (runs_by w top (suc n - count p.0) fuel p.1) (length_numbers w p.0) (counts_by w top (suc n - count p.0) fuel p.1)))
-
--- a width of at most 32 is not refused
-pub run_at_small : (w : ℕ) (bs : List ℕ) → w ≤ 32 → run_at w bs ≡ run w bs
-run_at_small w bs h = rw (le-leb w 32 h)
-
-pub sound_at_small : {X : Type 0} (w : ℕ) (r : Result X Broken) → w ≤ 32 → sound_at w r ≡ sound r
-sound_at_small w r h = rw (le-leb w 32 h)

@@ -5,4 +5,4 @@ use Rattle.hybrid_rle.specs.Held.{held}
 use Rattle.hybrid_rle.specs.declared.validity.OptionalPageValidity.{OptionalPageValidity}
 
 abbrev pub to_come : OptionalPageValidity → List (List Bool)
-to_come c = held c.current ++ later c.left c.rest.now
+to_come c = held c.current ++ later c.runs.left c.runs.rest.now

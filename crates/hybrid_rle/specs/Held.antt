@@ -1,38 +1,38 @@
--- What the code's runs and pieces mean.
+-- What the code's pieces mean.
 use Rattle.std.specs.Prelude.{ℕ, ◌+◌, ◌*◌, ◌^◌, ◌<◌, ◌≤◌, Bool, List, [], ◌∷◌, length, replicate, Some, None, Option}
 use Rattle.hybrid_rle.specs.Rows.{bits}
-use Rattle.hybrid_rle.specs.declared.validity.Current.{Current}
-use Rattle.hybrid_rle.specs.declared.validity.Current.TheVariants as cur
-use Rattle.hybrid_rle.specs.declared.validity.Piece.{Piece}
-use Rattle.hybrid_rle.specs.declared.validity.Piece.TheVariants as pc
+use Rattle.hybrid_rle.specs.declared.piece.Piece.{Piece}
+use Rattle.hybrid_rle.specs.declared.piece.Piece.TheVariants.{Bitmap, Repeated}
+
+-- how many items a piece has
+abbrev pub piece_count : {T : Type 0} → Piece T → ℕ
+piece_count (Bitmap bs at n) = n
+piece_count (Repeated v n) = n
+
+abbrev pub rows : Piece Bool → List Bool
+rows (Bitmap bs at n) = bits bs.now at n
+rows (Repeated s n) = replicate n s
 
 -- what is left of the run that is held
-abbrev pub held : Current → List (List Bool)
-held (cur.Bitmap bs at n) = bits bs.now at n ∷ []
-held (cur.Repeated s n) = replicate n s ∷ []
-held cur.Nothing = []
+abbrev pub held : Option (Piece Bool) → List (List Bool)
+held (Some p) = rows p ∷ []
+held None = []
 
--- where the run ends, and where its bytes end, in bits
-abbrev pub run_end : Current → ℕ
-run_end (cur.Bitmap bs at n) = at + n
-run_end (cur.Repeated s n) = 0
-run_end cur.Nothing = 0
-
-abbrev pub bytes_end : Current → ℕ
-bytes_end (cur.Bitmap bs at n) = 8 * length bs.now
-bytes_end (cur.Repeated s n) = 0
-bytes_end cur.Nothing = 0
-
-abbrev pub rows : Piece → List Bool
-rows (pc.Bitmap bs at n) = bits bs.now at n
-rows (pc.Repeated s n) = replicate n s
-
-abbrev pub asked : Option Piece → Option (List Bool)
+abbrev pub asked : Option (Piece Bool) → Option (List Bool)
 asked (Some p) = Some (rows p)
 asked None = None
 
+-- where the rows of a bitmap end, and where its bytes end, in bits
+abbrev pub run_end : Option (Piece Bool) → ℕ
+run_end (Some (Bitmap bs at n)) = at + n
+run_end (Some (Repeated s n)) = 0
+run_end None = 0
+
+abbrev pub bytes_end : Option (Piece Bool) → ℕ
+bytes_end (Some (Bitmap bs at n)) = 8 * length bs.now
+bytes_end (Some (Repeated s n)) = 0
+bytes_end None = 0
+
 -- a bitmap piece lies in its bytes
-abbrev pub Inside : Option Piece → Type 0
-Inside (Some (pc.Bitmap bs at n)) = (at + n ≤ 8 * length bs.now) × (at + n < 2 ^ 64)
-Inside (Some (pc.Repeated s n)) = Unit {0}
-Inside None = Unit {0}
+abbrev pub Inside : Option (Piece Bool) → Type 0
+Inside o = (run_end o ≤ bytes_end o) × (run_end o < 2 ^ 64)

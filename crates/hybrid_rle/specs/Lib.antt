@@ -5,3 +5,4 @@ pub mod Rows
 pub mod Held
 pub mod Cursor
 pub mod Table
+pub mod Messages

@@ -1,5 +1,5 @@
 -- Runs of numbers of w bits.
-use Rattle.std.specs.Prelude.{ℕ, zero, suc, ◌+◌, ◌-◌, ◌*◌, ◌/◌, ◌%◌, ◌^◌, Bool, true, cond, ◌&&◌, List, [], ◌∷◌, length, take, drop, replicate, Ok, Err, Result, ◌==◌, nat_le, nat_lt, slice_index}
+use Rattle.std.specs.Prelude.{ℕ, zero, suc, ◌+◌, ◌-◌, ◌*◌, ◌/◌, ◌%◌, ◌^◌, min, Bool, true, cond, ◌&&◌, List, [], ◌∷◌, length, take, drop, replicate, Some, None, Ok, Err, Option, Result, ◌==◌, nat_le, nat_lt, slice_index}
 use Rattle.values.specs.Little.{little}
 use Rattle.hybrid_rle.specs.Header.{Read, header}
 use Rattle.hybrid_rle.specs.declared.header.Broken.{Broken}
@@ -80,6 +80,20 @@ abbrev pub runs_by : ℕ → ℕ → ℕ → ℕ → List ℕ → Result (List (
 runs_by w top zero fuel bs = Ok []
 runs_by w top (suc n) zero bs = Err Ended
 runs_by w top (suc n) (suc fuel) bs = onto (run w bs) (λ p. cond (allowed top p.0) (ahead (take (suc n) (numbers w p.0)) (runs_by w top (suc n - count p.0) fuel p.1)) (Err Above))
+
+-- the numbers of a run up to the nth
+abbrev pub upto : ℕ → Stretch → Stretch
+upto n (packed bs m) = packed bs (min m n)
+upto n (repeated v m) = repeated v (min m n)
+
+-- one run on in a stream of which n numbers are still to come: the run up to the nth number, how many numbers are then
+-- still to come, and the bytes after it; none where n is 0
+abbrev pub Step : Type 0
+Step = Result (Option (Stretch × ℕ × List ℕ)) Broken
+
+abbrev pub step : ℕ → ℕ → List ℕ → Step
+step w zero bs = Ok None
+step w (suc n) bs = onto (run_at w bs) (λ p. Ok (Some (upto (suc n) p.0, suc n - count p.0, p.1)))
 
 -- each run has a byte or more
 abbrev pub runs : ℕ → ℕ → ℕ → List ℕ → Result (List (List ℕ)) Broken

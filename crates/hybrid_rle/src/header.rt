@@ -1,9 +1,12 @@
 ghost use Rattle.std.specs.Prelude.{◌≡◌, min, Ok};
 ghost use Rattle.hybrid_rle.specs.Header.{within_limit, header, number};
 
+use std::error::Error;
+use std::fmt;
+
 // Why there is no number or no run: the bytes end inside the number, it goes on after its last byte allowed, it is above
 // its limit, the bytes end inside the run, a repeated number is too large, or the width is above 32 bits.
-#[derive(Clone, Copy, Debug, PartialEq)]
+#[derive(Clone, Copy, Debug, PartialEq, Eq)]
 pub enum Broken {
     Ended,
     Long,
@@ -12,6 +15,26 @@ pub enum Broken {
     Above,
     Wide,
 }
+
+impl fmt::Display for Broken {
+    ghost use Rattle.std.specs.Prelude.{Some};
+    ghost use Rattle.hybrid_rle.specs.Messages.{message};
+
+    ghost output = { λ e. Some (message e) };
+
+    fn fmt<W: fmt::Write>(&self, f: &mut fmt::Formatter<W>) -> fmt::Result {
+        f.write_str(match self {
+            Broken::Ended => "the bytes end inside a number",
+            Broken::Long => "a number has too many bytes",
+            Broken::Large => "a number is above its limit",
+            Broken::Short => "the bytes end inside a run",
+            Broken::Above => "a repeated number is too large",
+            Broken::Wide => "a width is above 32 bits",
+        })
+    }
+}
+
+impl Error for Broken {}
 
 // A number and the bytes it took, if it is at most the limit.
 fn limited(value: u128, taken: usize, limit: u64) -> Result<(u64, usize), Broken>
@@ -30,17 +53,18 @@ pub fn read_number(bytes: &[u8], most: usize, limit: u64) -> Result<(u64, usize)
 {
     let most = most.min(10);
     let mut value: u128 = 0;
-    for at in 0..most {
-        if at >= bytes.len() {
-            return Err(Broken::Ended);
-        }
-        let b = bytes[at];
-        value += ((b & 127) as u128) << (7 * at);
-        if b < 128 {
+    let front = &bytes[..most.min(bytes.len())];
+    for (at, b) in front.iter().enumerate() {
+        value += ((*b & 127) as u128) << (7 * at);
+        if *b < 128 {
             return limited(value, at + 1, limit);
         }
     }
-    Err(Broken::Long)
+    Err(if bytes.len() < most {
+        Broken::Ended
+    } else {
+        Broken::Long
+    })
 }
 
 // The header of a run at the front of the bytes, and how many bytes it takes.

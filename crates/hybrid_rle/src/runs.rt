@@ -1,9 +1,12 @@
-ghost use Rattle.std.specs.Prelude.{◌≡◌, ℕ, ◌+◌, ◌-◌, ◌*◌, ◌/◌, ◌%◌, ◌^◌, ◌<◌, ◌≤◌, cond, length, take};
-ghost use Rattle.hybrid_rle.specs.Runs.{packed_in, repeated_in, run, run_at, runs, sound, sound_at};
+ghost use Rattle.std.specs.Prelude.{◌≡◌, ◌^◌, ◌<◌, ◌≤◌, false, take, Some};
+ghost use Rattle.hybrid_rle.specs.Runs.{allowed, count, packed_in, repeated_in, run, run_at, runs, sound_at, step, upto};
+ghost use Rattle.hybrid_rle.specs.Borrowed.{as_rows, stretch, meant, stepped, is_step};
+ghost use Rattle.hybrid_rle.specs.Held.{run_end};
 ghost use Rattle.values.specs.Little.{little};
-ghost use Rattle.hybrid_rle.specs.Borrowed.{meant};
 
 use crate::header::{Broken, read_header};
+use crate::piece::Piece;
+use crate::unpack::unpacked;
 
 // A run of numbers, over the bytes that it was read from.
 #[derive(Clone, Copy)]
@@ -12,20 +15,73 @@ pub enum Run<'a> {
     Repeated { value: u32, length: usize },
 }
 
-// The number that at most four bytes hold, the lowest first.
-fn little_end(bytes: &[u8]) -> u32
-    requires { length bytes.now ≤ 4 }
-    ensures { result ≡ little bytes.now }
-{
-    match bytes {
-        [] => 0,
-        [a] => *a as u32,
-        [a, b] => *a as u32 + 256 * (*b as u32),
-        [a, b, c] => *a as u32 + 256 * (*b as u32) + 65536 * (*c as u32),
-        [a, b, c, d, ..] => *a as u32
-            + 256 * (*b as u32)
-            + 65536 * (*c as u32)
-            + 16777216 * (*d as u32),
+impl<'a> Run<'a> {
+    // How many numbers a run has.
+    pub fn len(&self) -> usize
+        ensures { result ≡ count (stretch self.now) }
+    {
+        match self {
+            Run::Bitmap { length, .. } => *length,
+            Run::Repeated { length, .. } => *length,
+        }
+    }
+
+    // Whether no repeated number is above `top`.
+    pub fn is_allowed(&self, top: u32) -> bool
+        ensures { result ≡ allowed top (stretch self.now) }
+    {
+        match self {
+            Run::Bitmap { .. } => true,
+            Run::Repeated { value, .. } => *value <= top,
+        }
+    }
+
+    // The rows of a run of one-bit numbers: number 1 is a present row.
+    pub fn rows(self) -> Piece<'a, bool>
+        ensures piece { result ≡ as_rows self.entry }
+        ensures near { run_end (Some result) < 2 ^ 64 }
+    {
+        let length = self.len();
+        match self {
+            Run::Bitmap { bytes, .. } => Piece::Bitmap {
+                bytes,
+                offset: 0,
+                length,
+            },
+            Run::Repeated { value, .. } => Piece::Repeated {
+                value: value == 1,
+                length,
+            },
+        }
+    }
+
+    // The numbers of a run up to the `n`th.
+    fn up_to(self, n: usize) -> Self
+        ensures { stretch result ≡ upto n (stretch self.entry) }
+    {
+        let length = self.len().min(n);
+        match self {
+            Run::Bitmap { bytes, .. } => Run::Bitmap { bytes, length },
+            Run::Repeated { value, .. } => Run::Repeated { value, length },
+        }
+    }
+}
+
+impl<'a> From<Run<'a>> for Piece<'a, u32> {
+    ghost use Rattle.std.specs.Prelude.{◌≡◌};
+    ghost use Rattle.hybrid_rle.specs.Borrowed.{as_numbers};
+
+    ghost from_gives = { λ run piece. piece ≡ as_numbers run };
+
+    fn from(run: Run<'a>) -> Self {
+        match run {
+            Run::Bitmap { bytes, length } => Piece::Bitmap {
+                bytes,
+                offset: 0,
+                length,
+            },
+            Run::Repeated { value, length } => Piece::Repeated { value, length },
+        }
     }
 }
 
@@ -33,10 +89,7 @@ fn little_end(bytes: &[u8]) -> u32
 pub fn first_number(bytes: &[u8]) -> u32
     ensures { result ≡ little (take 4 bytes.now) }
 {
-    if bytes.len() > 4 {
-        return little_end(&bytes[0..4]);
-    }
-    little_end(bytes)
+    unpacked(bytes, 32, 0)
 }
 
 // A run of groups of 8 packed numbers of `w` bits, and the bytes after it.
@@ -63,7 +116,7 @@ fn repeated_run<'a>(length: usize, w: u8, body: &'a [u8]) -> Result<(Run<'a>, &'
         return Err(Broken::Short);
     }
     let (number, rest) = body.split_at(size);
-    let value = little_end(number);
+    let value = first_number(number);
     Ok((Run::Repeated { value, length }, rest))
 }
 
@@ -92,6 +145,32 @@ pub fn next_run<'a>(bytes: &'a [u8], w: u8) -> Result<(Run<'a>, &'a [u8]), Broke
     read_run(bytes, w)
 }
 
+// The next `left` numbers of `w` bits of a stream of runs.
+#[derive(Clone, Copy)]
+pub struct Runs<'a> {
+    pub w: u8,
+    pub rest: &'a [u8],
+    pub left: usize,
+}
+
+impl<'a> Runs<'a> {
+    // The next run, up to the last of the numbers; none where no number is left.
+    pub fn next(&mut self) -> Result<Option<Run<'a>>, Broken>
+        ensures given { stepped result self.new ≡ step self.old.w self.old.left self.old.rest.now }
+        ensures width { self.new.w ≡ self.old.w }
+        ensures kept { is_step result ≡ false → self.new ≡ self.old }
+    {
+        if self.left == 0 {
+            return Ok(None);
+        }
+        let (run, rest) = next_run(self.rest, self.w)?;
+        let run = run.up_to(self.left);
+        self.left -= run.len();
+        self.rest = rest;
+        Ok(Some(run))
+    }
+}
+
 // Whether whole runs give `n` numbers or more, none of the repeated ones above `top`.
 pub fn check(bytes: &[u8], w: u8, top: u32, n: usize) -> Result<(), Broken>
     ensures { result ≡ sound_at w (runs w top n bytes.now) }
@@ -99,21 +178,15 @@ pub fn check(bytes: &[u8], w: u8, top: u32, n: usize) -> Result<(), Broken>
     if w > 32 {
         return Err(Broken::Wide);
     }
-    let mut rest = bytes;
-    let mut left = n;
-    while left > 0 {
-        let (run, after) = read_run(rest, w)?;
-        let length = match run {
-            Run::Bitmap { length, .. } => length,
-            Run::Repeated { value, length } => {
-                if value > top {
-                    return Err(Broken::Above);
-                }
-                length
-            }
-        };
-        left = left.saturating_sub(length);
-        rest = after;
+    let mut runs = Runs {
+        w,
+        rest: bytes,
+        left: n,
+    };
+    while let Some(run) = runs.next()? {
+        if !run.is_allowed(top) {
+            return Err(Broken::Above);
+        }
     }
     Ok(())
 }

@@ -1,7 +1,6 @@
 ghost use Rattle.hybrid_rle.specs.Table.{Examples};
 
-pub fn examples_stand() -> u8
+// The worked cases of the definitions: what they compute is a theorem, and there is nothing to run.
+pub fn examples_stand()
     ensures { Examples }
-{
-    0
-}
+{}

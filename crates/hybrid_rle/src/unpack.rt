@@ -1,51 +1,36 @@
-ghost use Rattle.std.specs.Prelude.{◌≡◌, ℕ, ◌+◌, ◌*◌, ◌^◌, ◌<◌, ◌≤◌, min, length, take, drop};
+ghost use Rattle.std.specs.Prelude.{◌≡◌, ◌<◌, min, length, take};
 ghost use Rattle.hybrid_rle.specs.Runs.{field};
 ghost use Rattle.values.specs.Little.{little};
 
-// The number that at most five bytes hold, the lowest first.
-fn window(bytes: &[u8]) -> u64
-    requires { length bytes.now ≤ 5 }
+// The number that fewer than eight bytes hold, the lowest first.
+fn short_number(bytes: &[u8]) -> u64
+    requires { length bytes.now < 8 }
     ensures { result ≡ little bytes.now }
 {
-    match bytes {
-        [] => 0,
-        [a] => *a as u64,
-        [a, b] => *a as u64 + 256 * (*b as u64),
-        [a, b, c] => *a as u64 + 256 * (*b as u64) + 65536 * (*c as u64),
-        [a, b, c, d] => *a as u64
-            + 256 * (*b as u64)
-            + 65536 * (*c as u64)
-            + 16777216 * (*d as u64),
-        [a, b, c, d, e, ..] => {
-            *a as u64
-                + 256 * (*b as u64)
-                + 65536 * (*c as u64)
-                + 16777216 * (*d as u64)
-                + 4294967296 * (*e as u64)
-        }
+    let mut value = 0;
+    for (at, b) in bytes.iter().enumerate() {
+        value += (*b as u64) << (8 * at);
     }
+    value
 }
 
-// At most five bytes from a place on.
-fn past(bytes: &[u8], first: usize) -> &[u8]
-    ensures { result.now ≡ take 5 (drop first bytes.now) }
+// The number in the first eight bytes, the lowest first; bytes that are missing count as 0.
+fn window(bytes: &[u8]) -> u64
+    ensures { result ≡ little (take 8 bytes.now) }
 {
-    if first > bytes.len() {
-        return &[];
+    match bytes {
+        [a, b, c, d, e, f, g, h, ..] => u64::from_le_bytes([*a, *b, *c, *d, *e, *f, *g, *h]),
+        _ => short_number(bytes),
     }
-    let (_, rest) = bytes.split_at(first);
-    if rest.len() > 5 { &rest[0..5] } else { rest }
 }
 
-// The number in the `w` bits from bit `at` on, as one window of five bytes holds them. Bits past the end count as 0,
+// The number in the `w` bits from bit `at` on, as one window of eight bytes holds them. Bits past the end count as 0,
 // and a width above 32 as 32.
 pub fn unpacked(bytes: &[u8], w: u8, at: usize) -> u32
     ensures { result ≡ field (min w 32) bytes.now at }
 {
     let w = w.min(32);
-    let first = at / 8;
-    let shift = at % 8;
-    let part = past(bytes, first);
-    let value = window(part);
-    ((value >> shift) & ((1 << w) - 1)) as u32
+    let first = (at / 8).min(bytes.len());
+    let value = window(&bytes[first..]);
+    ((value >> (at % 8)) & ((1 << w) - 1)) as u32
 }

@@ -1,45 +1,18 @@
-ghost use Rattle.std.specs.Prelude.{◌≡◌, ◌^◌, ◌<◌, ◌≤◌, true};
+ghost use Rattle.std.specs.Prelude.{◌≡◌, true};
 ghost use Rattle.hybrid_rle.specs.Rows.{gives_rows};
-ghost use Rattle.hybrid_rle.specs.Held.{run_end, bytes_end};
+ghost use Rattle.hybrid_rle.specs.Held.{Inside};
 
 mod step;
 
-// The run that rows are taken from.
-#[derive(Clone, Copy)]
-pub enum Current<'a> {
-    Bitmap {
-        bytes: &'a [u8],
-        offset: usize,
-        length: usize,
-    },
-    Repeated {
-        is_set: bool,
-        length: usize,
-    },
-    Nothing,
-}
+use crate::piece::Piece;
+use crate::runs::Runs;
 
-// Rows that come next.
-#[derive(Clone, Copy)]
-pub enum Piece<'a> {
-    Bitmap {
-        bytes: &'a [u8],
-        offset: usize,
-        length: usize,
-    },
-    Repeated {
-        is_set: bool,
-        length: usize,
-    },
-}
-
-// The rows of a page that are still to come: those of the current run, and `left` more from the runs in `rest`.
+// The rows of a page that are still to come: those of the run that rows are taken from, and those of the runs after it.
 #[derive(Clone, Copy)]
 pub struct OptionalPageValidity<'a> {
-    rest: &'a [u8],
-    left: usize,
-    current: Current<'a>,
-    ghost gives: { gives_rows left rest.now ≡ true },
-    ghost whole: { run_end current ≤ bytes_end current },
-    ghost near: { run_end current < 2 ^ 64 },
+    runs: Runs<'a>,
+    current: Option<Piece<'a, bool>>,
+    ghost one_bit: { runs.w ≡ 1 },
+    ghost gives: { gives_rows runs.left runs.rest.now ≡ true },
+    ghost inside: { Inside current },
 }

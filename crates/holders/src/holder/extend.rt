@@ -9,7 +9,8 @@ ghost use Rattle.holders.specs.Holding.{held, unused_as};
 
 use super::Holder;
 use crate::cursor::{Cursor, OverPage};
-use crate::decode::{extend_from_decoder, extend_required};
+use crate::decode::extend_from_decoder;
+use crate::fill::extend_required;
 use crate::measure::{count_present, weigh_within};
 use sinks::pushable::{Pushable, Sink, Validity};
 

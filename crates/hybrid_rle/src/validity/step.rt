@@ -1,112 +1,42 @@
-ghost use Rattle.std.specs.Prelude.{◌≡◌, ◌+◌, ◌^◌, ◌<◌, true, [], ◌++◌, length, is_ok, ◌≢◌};
+ghost use Rattle.std.specs.Prelude.{◌≡◌, true, [], ◌++◌, length, is_ok};
 ghost use Rattle.hybrid_rle.specs.Cursor.{to_come};
-ghost use Rattle.hybrid_rle.specs.Rows.{piece, beyond, in_place, taken, flat};
+ghost use Rattle.hybrid_rle.specs.Rows.{piece, beyond, in_place, later, taken, flat};
 ghost use Rattle.hybrid_rle.specs.Runs.{runs, sound};
 ghost use Rattle.hybrid_rle.specs.Held.{asked, held, Inside};
-ghost use Rattle.hybrid_rle.specs.declared.validity.Current.TheVariants.{Nothing};
 
-use super::{Current, OptionalPageValidity, Piece};
+use super::OptionalPageValidity;
 use crate::header::Broken;
-use crate::runs::{Run, check, next_run};
+use crate::piece::Piece;
+use crate::runs::{Runs, check};
 
 impl<'a> OptionalPageValidity<'a> {
-    // Takes the next run of the stream as the current one, up to the last row.
-    fn load(&mut self)
-        requires { (self.old.current ≡ Nothing) × (0 < self.old.left) }
-        ensures same { to_come self.new ≡ to_come self.old }
-        ensures some { self.new.current ≢ Nothing }
+    // The rows of the next run of the stream, up to the last row.
+    fn load(&mut self) -> Option<Piece<'a, bool>>
+        ensures given { held result ++ later self.new.runs.left self.new.runs.rest.now ≡ later self.old.runs.left self.old.runs.rest.now }
+        ensures inside { Inside result }
+        ensures ended { result ≡ None → self.new.runs.left ≡ 0 }
+        ensures current { self.new.current ≡ self.old.current }
     {
-        let Ok((run, rest)) = next_run(self.rest, 1) else {
-            return unreachable();
-        };
-        match run {
-            Run::Bitmap { bytes, length } => {
-                let length = length.min(self.left);
-                self.current = Current::Bitmap {
-                    bytes,
-                    offset: 0,
-                    length,
-                };
-                self.left -= length;
-                self.rest = rest;
-            }
-            Run::Repeated { value, length } => {
-                let length = length.min(self.left);
-                self.current = Current::Repeated {
-                    is_set: value == 1,
-                    length,
-                };
-                self.left -= length;
-                self.rest = rest;
-            }
+        match self.runs.next() {
+            Ok(run) => Some(run?.rows()),
+            Err(_) => unreachable(),
         }
     }
 
     // The next rows: those of the current run, at most `limit`.
-    pub fn next_limited(&mut self, limit: usize) -> Option<Piece<'a>>
+    pub fn next_limited(&mut self, limit: usize) -> Option<Piece<'a, bool>>
         ensures given { asked result ≡ piece limit (to_come self.old) }
         ensures after { to_come self.new ≡ beyond limit (to_come self.old) }
         ensures onward { taken (asked result) ++ flat (to_come self.new) ≡ flat (to_come self.old) }
         ensures inside { Inside result }
     {
-        if let Current::Nothing = self.current {
-            if self.left == 0 {
-                return None;
-            }
-            self.load();
-        }
-        match (&mut self.current, limit) {
-            (Current::Nothing, _) => unreachable(),
-            (
-                Current::Bitmap {
-                    bytes,
-                    offset,
-                    length,
-                },
-                limit,
-            ) if limit < *length => {
-                let piece = Piece::Bitmap {
-                    bytes: *bytes,
-                    offset: *offset,
-                    length: limit,
-                };
-                *offset = row_after(*offset, limit);
-                *length -= limit;
-                Some(piece)
-            }
-            (Current::Repeated { is_set, length }, limit) if limit < *length => {
-                let piece = Piece::Repeated {
-                    is_set: *is_set,
-                    length: limit,
-                };
-                *length -= limit;
-                Some(piece)
-            }
-            (
-                Current::Bitmap {
-                    bytes,
-                    offset,
-                    length,
-                },
-                _,
-            ) => {
-                let piece = Piece::Bitmap {
-                    bytes: *bytes,
-                    offset: *offset,
-                    length: *length,
-                };
-                self.current = Current::Nothing;
-                Some(piece)
-            }
-            (Current::Repeated { is_set, length }, _) => {
-                let piece = Piece::Repeated {
-                    is_set: *is_set,
-                    length: *length,
-                };
-                self.current = Current::Nothing;
-                Some(piece)
-            }
-        }
+        let run = match self.current {
+            Some(run) => run,
+            None => self.load()?,
+        };
+        let (piece, rest) = run.split_at(limit);
+        self.current = rest;
+        Some(piece)
     }
 
     // No rows.
@@ -114,9 +44,12 @@ impl<'a> OptionalPageValidity<'a> {
         ensures { to_come result ≡ [] }
     {
         OptionalPageValidity {
-            rest: &[],
-            left: 0,
-            current: Current::Nothing,
+            runs: Runs {
+                w: 1,
+                rest: &[],
+                left: 0,
+            },
+            current: None,
         }
     }
 
@@ -127,17 +60,14 @@ impl<'a> OptionalPageValidity<'a> {
         ensures count { is_ok result ≡ true → length (flat (to_come self.new)) ≡ rows }
     {
         check(bytes, 1, 1, rows)?;
-        self.rest = bytes;
-        self.left = rows;
-        self.current = Current::Nothing;
+        *self = OptionalPageValidity {
+            runs: Runs {
+                w: 1,
+                rest: bytes,
+                left: rows,
+            },
+            current: None,
+        };
         Ok(())
     }
-}
-
-// Where a run goes on that was cut after `rows` rows.
-fn row_after(offset: usize, rows: usize) -> usize
-    requires { offset + rows < 2 ^ 64 }
-    ensures { result ≡ offset + rows }
-{
-    rows + offset
 }

@@ -2,7 +2,7 @@ use Rattle.std.proofs.Common.{◌≡◌, ◌+◌, ◌-◌, ◌<◌, ◌≤◌, �
 use Rattle.hybrid_rle.specs.Rows.{flat}
 use Rattle.hybrid_rle.specs.Held.{rows}
 use Rattle.hybrid_rle.specs.Cursor.{to_come}
-use Rattle.hybrid_rle.proofs.Pieces.{piece_most, piece_falls, piece_none}
+use Rattle.hybrid_rle.proofs.Pieces.{length_rows, piece_most, piece_falls, piece_none}
 use Rattle.std.proofs.lemmas.List.{append_assoc}
 use Rattle.holders.proofs.Filling.{mid_able, mid_grown}
 use Rattle.holders.proofs.Along.{more_taken, more_dropped, all_rows, not_ended, falls, bits_then}
@@ -32,7 +32,7 @@ push_piece-requires g c =
 pub overflow_add-done : goal.overflow_add-done
 overflow_add-done g c =
     let m = piece_most (c.args.limit - c.loop-done.done) (rows c.in-Some.piece) (to_come c.next_limited.new.self) (to_come c.loop-done.page) c.in-Some.ensures.given in
-    let k = c.rows_in-n.ensures in
+    let k : c.len-done.result ≡ length (rows c.in-Some.piece) = c.len-done.ensures ∙ sym (length_rows c.in-Some.piece) in
     let f = c.ranges.limit.fits in
     let t = c.loop-done-test.true in
     omega arith
@@ -43,7 +43,7 @@ loop-done-smaller g c =
     let t = c.loop-done-test.true in
     let p = piece_falls (c.args.limit - c.loop-done.done) (rows c.in-Some.piece) (to_come c.next_limited.new.self) (to_come c.loop-done.page) (omega arith) c.in-Some.ensures.given c.in-Some.ensures.after in
     let q = falls c.args.limit c.loop-done.done (length (rows c.in-Some.piece)) (length (to_come c.loop-done.page)) (length (to_come c.next_limited.new.self)) t p m in
-    subst (λ k. (c.args.limit - (c.loop-done.done + k)) + length (to_come c.next_limited.new.self) < (c.args.limit - c.loop-done.done) + length (to_come c.loop-done.page)) (sym c.rows_in-n.ensures) q
+    subst (λ k. (c.args.limit - (c.loop-done.done + k)) + length (to_come c.next_limited.new.self) < (c.args.limit - c.loop-done.done) + length (to_come c.loop-done.page)) (length_rows c.in-Some.piece ∙ sym c.len-done.ensures) q
 
 pub loop-done-preserved : goal.loop-done-preserved
 loop-done-preserved g c =
@@ -54,19 +54,19 @@ loop-done-preserved g c =
     let m : length xs ≤ c.args.limit - d = piece_most (c.args.limit - d) xs (to_come c.next_limited.new.self) (to_come c.loop-done.page) c.in-Some.ensures.given in
     let t = c.loop-done-test.true in
     let n : d + length xs ≤ c.args.limit = omega arith in
-    let k : c.rows_in-n.result ≡ length xs = c.rows_in-n.ensures in
+    let k : c.len-done.result ≡ length xs = c.len-done.ensures ∙ sym (length_rows c.in-Some.piece) in
     let some : d ≤ length F = omega (arith, c.requires.rows) in
     let o : xs ++ ys ≡ drop d F = c.in-Some.ensures.onward ∙ c.loop-done.invariant.1 in
     let e = all_rows F xs ys d c.args.limit o some n in
-    let x : take (d + c.rows_in-n.result) F ≡ take d F ++ xs = ap (λ j. take (d + j) F) k ∙ more_taken F xs ys d c.args.limit o some n in
+    let x : take (d + c.len-done.result) F ≡ take d F ++ xs = ap (λ j. take (d + j) F) k ∙ more_taken F xs ys d c.args.limit o some n in
     let z = c.push_piece.ensures in
-    let y = mid_grown _ _ (take c.args.limit F) (take d F) xs (take (c.args.limit - (d + length xs)) ys) _ e c.requires.able _ (take (d + c.rows_in-n.result) F) _ _ _ _ c.loop-done.invariant.4 x c.loop-done.invariant.2 c.loop-done.invariant.3 z.items z.left in (
+    let y = mid_grown _ _ (take c.args.limit F) (take d F) xs (take (c.args.limit - (d + length xs)) ys) _ e c.requires.able _ (take (d + c.len-done.result) F) _ _ _ _ c.loop-done.invariant.4 x c.loop-done.invariant.2 c.loop-done.invariant.3 z.fills.items z.fills.left in (
       omega arith,
       more_dropped F xs ys d c.args.limit o some n ∙ ap (λ j. drop (d + j) F) (sym k),
       y.0,
       y.1,
-      z.room ∙ c.loop-done.invariant.4,
-      z.home ∙ c.loop-done.invariant.5,
+      z.fills.room ∙ c.loop-done.invariant.4,
+      z.fills.home ∙ c.loop-done.invariant.5,
       z.bits ∙ ap (λ l. l ++ xs) c.loop-done.invariant.6 ∙ append_assoc (g.V.Validity.bits c.args.validity.now) (take d F) xs ∙ ap (λ l. g.V.Validity.bits c.args.validity.now ++ l) (sym x),
       z.space ∙ c.loop-done.invariant.7,
       z.same ∙ c.loop-done.invariant.8,

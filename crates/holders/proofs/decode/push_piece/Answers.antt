@@ -20,10 +20,7 @@ returns-in-Bitmap g c =
     let x = c.extend_from_slice.ensures in
     let ok : is_ok c.extend_from_slice.result ≡ true = ap is_ok x.answer ∙ sliced_ok (length bs) (g.V.Validity.room v) (length (g.V.Validity.bits v)) c.in-Bitmap.offset c.in-Bitmap.length i.0 i.1 (omega arith) in
     record {
-      items = c.push_bits.ensures.items ∙ ap (λ t. g.P.Sink.items c.args.sink.now ++ filled (g.P.Sink.room c.args.sink.now).blank t (g.C.Cursor.left c.args.values.now)) (sym e);
-      left = c.push_bits.ensures.left ∙ ap (λ t. drop (needed t) (g.C.Cursor.left c.args.values.now)) (sym e);
-      room = c.push_bits.ensures.room;
-      home = c.push_bits.ensures.home;
+      fills = record { items = c.push_bits.ensures.items ∙ ap (λ t. g.P.Sink.items c.args.sink.now ++ filled (g.P.Sink.room c.args.sink.now).blank t (g.C.Cursor.left c.args.values.now)) (sym e); left = c.push_bits.ensures.left ∙ ap (λ t. drop (needed t) (g.C.Cursor.left c.args.values.now)) (sym e); room = c.push_bits.ensures.room; home = c.push_bits.ensures.home };
       bits = (simp ok at x.bits) ∙ ap (λ t. g.V.Validity.bits v ++ t) (part_bits bs c.in-Bitmap.offset c.in-Bitmap.length ∙ sym e);
       space = x.room;
       same = x.home;
@@ -33,16 +30,13 @@ pub returns-in-Repeated : goal.returns-in-Repeated
 returns-in-Repeated g c =
     let v = c.args.validity.now in
     let n = c.in-Repeated.length in
-    let e : rows c.args.piece ≡ replicate n c.in-Repeated.is_set = ap rows c.in-Repeated.is in
-    let l : length (rows c.args.piece) ≡ n = ap length e ∙ length-replicate n c.in-Repeated.is_set in
+    let e : rows c.args.piece ≡ replicate n c.in-Repeated.value = ap rows c.in-Repeated.is in
+    let l : length (rows c.args.piece) ≡ n = ap length e ∙ length-replicate n c.in-Repeated.value in
     let s = c.requires.space in
     let x = c.extend_constant.ensures in
     let ok : is_ok c.extend_constant.result ≡ true = x.answer ∙ le-leb (length (g.V.Validity.bits v) + n) (g.V.Validity.room v) (omega arith) in
     record {
-      items = c.push_same.ensures.items ∙ ap (λ t. g.P.Sink.items c.args.sink.now ++ filled (g.P.Sink.room c.args.sink.now).blank t (g.C.Cursor.left c.args.values.now)) (sym e);
-      left = c.push_same.ensures.left ∙ ap (λ t. drop (needed t) (g.C.Cursor.left c.args.values.now)) (sym e);
-      room = c.push_same.ensures.room;
-      home = c.push_same.ensures.home;
+      fills = record { items = c.push_same.ensures.items ∙ ap (λ t. g.P.Sink.items c.args.sink.now ++ filled (g.P.Sink.room c.args.sink.now).blank t (g.C.Cursor.left c.args.values.now)) (sym e); left = c.push_same.ensures.left ∙ ap (λ t. drop (needed t) (g.C.Cursor.left c.args.values.now)) (sym e); room = c.push_same.ensures.room; home = c.push_same.ensures.home };
       bits = (simp ok at x.bits) ∙ ap (λ t. g.V.Validity.bits v ++ t) (sym e);
       space = x.room;
       same = x.home;

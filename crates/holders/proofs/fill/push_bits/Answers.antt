@@ -5,9 +5,9 @@ use Rattle.holders.proofs.fill.push_bits.Goals as goal
 
 pub push_row-requires : goal.push_row-requires
 push_row-requires g c =
-    mid_able _ _ _ (bits c.args.bytes.now c.args.offset c.loop-i.i) (c.get_bit-present.result ∷ []) (bits c.args.bytes.now (c.args.offset + c.loop-i.i + 1) (c.args.n - (c.loop-i.i + 1))) _ (split_bits c.args.bytes.now c.args.offset c.args.n c.loop-i.i c.get_bit-present.result c.loop-i-test.true c.get_bit-present.ensures) c.requires.able _ _ _ c.loop-i.invariant.2 c.loop-i.invariant.0 c.loop-i.invariant.1
+    mid_able _ _ _ (bits c.args.bytes.now c.args.offset c.loop-i.i) (c.get_bit-present.result ∷ []) (bits c.args.bytes.now (c.args.offset + c.loop-i.i + 1) (c.args.n - (c.loop-i.i + 1))) _ (split_bits c.args.bytes.now c.args.offset c.args.n c.loop-i.i c.get_bit-present.result c.loop-i-test.true c.get_bit-present.ensures) c.requires.able _ _ _ c.loop-i.invariant.room c.loop-i.invariant.items c.loop-i.invariant.left
 
 pub loop-i-preserved : goal.loop-i-preserved
 loop-i-preserved g c =
-    let e = mid_grown _ _ _ (bits c.args.bytes.now c.args.offset c.loop-i.i) (c.get_bit-present.result ∷ []) (bits c.args.bytes.now (c.args.offset + c.loop-i.i + 1) (c.args.n - (c.loop-i.i + 1))) _ (split_bits c.args.bytes.now c.args.offset c.args.n c.loop-i.i c.get_bit-present.result c.loop-i-test.true c.get_bit-present.ensures) c.requires.able _ (bits c.args.bytes.now c.args.offset (c.loop-i.i + 1)) _ _ _ _ c.loop-i.invariant.2 (bits_one c.args.bytes.now c.args.offset c.loop-i.i c.get_bit-present.result c.get_bit-present.ensures) c.loop-i.invariant.0 c.loop-i.invariant.1 c.push_row.ensures.items c.push_row.ensures.left in
-    (e.0, e.1, c.push_row.ensures.room ∙ c.loop-i.invariant.2, c.push_row.ensures.home ∙ c.loop-i.invariant.3)
+    let e = mid_grown _ _ _ (bits c.args.bytes.now c.args.offset c.loop-i.i) (c.get_bit-present.result ∷ []) (bits c.args.bytes.now (c.args.offset + c.loop-i.i + 1) (c.args.n - (c.loop-i.i + 1))) _ (split_bits c.args.bytes.now c.args.offset c.args.n c.loop-i.i c.get_bit-present.result c.loop-i-test.true c.get_bit-present.ensures) c.requires.able _ (bits c.args.bytes.now c.args.offset (c.loop-i.i + 1)) _ _ _ _ c.loop-i.invariant.room (bits_one c.args.bytes.now c.args.offset c.loop-i.i c.get_bit-present.result c.get_bit-present.ensures) c.loop-i.invariant.items c.loop-i.invariant.left c.push_row.ensures.items c.push_row.ensures.left in
+    record { items = e.0; left = e.1; room = c.push_row.ensures.room ∙ c.loop-i.invariant.room; home = c.push_row.ensures.home ∙ c.loop-i.invariant.home }

@@ -1,10 +1,7 @@
-use Rattle.std.proofs.Common.{arith}
-use Rattle.holders.proofs.Tally.{one_set, one_clear}
+use Rattle.hybrid_rle.specs.Rows.{bits}
+use Rattle.holders.proofs.Filling.{bits_one}
+use Rattle.holders.proofs.Measures.{needed_byte}
 use Rattle.holders.proofs.present.ones.Goals as goal
-use Rattle.holders.proofs.present.ones.Goals.{then-unpacked-eq1, else-unpacked-eq1}
 
 pub loop-i-preserved : goal.loop-i-preserved
-loop-i-preserved c = elim c.if-unpacked-eq1.branch [
-  | then-unpacked-eq1 w ↦ (let e = one_set c.args.bytes.now c.args.n c.loop-i.i (omega arith) c.unpacked.result c.unpacked.ensures w.if-unpacked-eq1.true in let k = w.k-is in (omega arith, omega arith))
-  | else-unpacked-eq1 w ↦ (let e = one_clear c.args.bytes.now c.args.n c.loop-i.i (omega arith) c.unpacked.result c.unpacked.ensures w.if-unpacked-eq1.false in let k = w.k-is in (omega arith, omega arith))
-]
+loop-i-preserved c = needed_byte (bits c.args.bytes.now c.args.offset c.loop-i.i) _ c.get_bit.result c.loop-i.count c.loop-i.i (bits_one c.args.bytes.now c.args.offset c.loop-i.i c.get_bit.result c.get_bit.ensures) c.loop-i.invariant.0 c.loop-i.invariant.1

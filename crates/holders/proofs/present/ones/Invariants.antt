@@ -1,7 +1,7 @@
-use Rattle.std.proofs.Common.{◌≡◌, ◌+◌, ◌-◌, ◌≤◌}
+use Rattle.std.proofs.Common.{◌≡◌, ◌≤◌}
 use Rattle.hybrid_rle.specs.Rows.{bits}
 use Rattle.holders.specs.Judge.{needed}
 use Rattle.holders.proofs.present.ones.Given as goal
 
 abbrev pub invariant-loop-i : goal.invariant-loop-i
-invariant-loop-i l = (l.k ≤ l.i) × (needed (bits l.bytes 0 l.n) ≡ l.k + needed (bits l.bytes l.i (l.n - l.i)))
+invariant-loop-i l = (l.count ≡ needed (bits l.bytes l.offset l.i)) × (l.count ≤ l.i)

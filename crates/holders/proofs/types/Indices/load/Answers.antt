@@ -1,36 +1,30 @@
-use Rattle.std.proofs.Common.{◌≡◌, ◌≤◌, Ok, Err, sym, ap, ◌∙◌, subst, rules}
-use Rattle.hybrid_rle.specs.Borrowed.{stretch}
-use Rattle.hybrid_rle.specs.Runs.{One, run, packed, repeated}
-use Rattle.hybrid_rle.proofs.Streams.{run_shorter, run_at_small}
-use Rattle.holders.specs.Counts.{bits_in, bits_of}
-use Rattle.holders.proofs.Below.{room_at}
-use Rattle.holders.proofs.Onward.{bounds, load_packed, load_repeated}
+use Rattle.std.proofs.Common.{◌-◌, ◌^◌, Some, Ok, refl, ap, ◌∙◌}
+use Rattle.hybrid_rle.specs.Borrowed.{as_numbers, stretch}
+use Rattle.hybrid_rle.proofs.Streams.{Stepped, stepped_at}
+use Rattle.holders.specs.Left.{current_numbers}
+use Rattle.holders.proofs.Onward.{all_to_come, bounds, load_run, load_ok}
 use Rattle.holders.proofs.types.Indices.load.Goals as goal
+use Rattle.holders.proofs.types.Indices.load.Goals.{In-Ok-Some}
 
-pub returns-in-Bitmap : goal.returns-in-Bitmap
-returns-in-Bitmap c =
+-- the run that was given
+on : (c : In-Ok-Some) → Stepped c.args.self.now.runs.w (2 ^ 32 - 1) c.args.self.now.runs.left c.args.self.now.runs.rest.now (Ok (Some (stretch c.in-Ok-Some.run', c.next.new.self.left, c.next.new.self.rest.now)))
+on c =
     let h = c.args.self.now in
-    let w = (bounds h.w _ h.left h.rest.now c.requires.0).0 in
-    let e : ◌≡◌ {A = One} (Ok (packed c.in-Bitmap.bytes.now c.in-Bitmap.length, c.in-Ok.rest.now)) (run h.w h.rest.now) = sym (ap (λ r. Ok (stretch r, c.in-Ok.rest.now)) c.in-Bitmap.is) ∙ c.in-Ok.ensures ∙ run_at_small h.w h.rest.now w in
-    let r = subst (λ x. bits_of h.w x ≤ bits_in x) c.in-Bitmap.is (room_at h.w h.rest.now c.in-Ok.run' c.in-Ok.rest.now (c.in-Ok.ensures ∙ run_at_small h.w h.rest.now w)) in
-    record {
-      same = load_packed h.w h.left h.rest.now c.in-Ok.rest.now c.in-Bitmap.bytes.now h.current c.in-Bitmap.length c.min-length.result c.requires.1.1 c.requires.1.0 e c.requires.0 c.min-length.ensures r;
-      shorter = run_shorter h.w h.rest.now _ (sym e);
-    }
+    stepped_at h.runs.w (2 ^ 32 - 1) h.runs.left h.runs.rest.now h.runs.w _ (bounds h.runs.w _ h.runs.left h.runs.rest.now c.requires.0).0 refl (rw c.in-Ok-Some.field-0-is at c.in-Ok-Some.ensures.given)
 
-pub returns-in-Repeated : goal.returns-in-Repeated
-returns-in-Repeated c =
+pub returns-clause-same : goal.returns-clause-same
+returns-clause-same c =
+    let s = on (goal.at.returns-clause-same c).In-Ok-Some in
     let h = c.args.self.now in
-    let w = (bounds h.w _ h.left h.rest.now c.requires.0).0 in
-    let e : ◌≡◌ {A = One} (Ok (repeated c.in-Repeated.value c.in-Repeated.length, c.in-Ok.rest.now)) (run h.w h.rest.now) = sym (ap (λ r. Ok (stretch r, c.in-Ok.rest.now)) c.in-Repeated.is) ∙ c.in-Ok.ensures ∙ run_at_small h.w h.rest.now w in
-    record {
-      same = load_repeated h.w h.left h.rest.now c.in-Ok.rest.now c.in-Repeated.value h.current c.in-Repeated.length c.min-length-in-Repeated.result c.requires.1.1 c.requires.1.0 e c.requires.0 c.min-length-in-Repeated.ensures;
-      shorter = run_shorter h.w h.rest.now _ (sym e);
-    }
+    let n = c.next.new.self in
+    ap (λ p. all_to_come n.w (current_numbers n.w (Some p)) n.left n.rest.now) c.from.ensures
+    ∙ ap (λ k. all_to_come k (current_numbers k (Some (as_numbers c.in-Ok-Some.run'))) n.left n.rest.now) c.in-Ok-Some.ensures.width
+    ∙ load_run h.runs.w h.runs.left n.left h.runs.rest.now n.rest.now h.current c.requires.1.0 c.requires.0 c.in-Ok-Some.run' s
 
-pub unreachable-requires : goal.unreachable-requires
-unreachable-requires c =
+pub returns-clause-shorter : goal.returns-clause-shorter
+returns-clause-shorter c = (on (goal.at.returns-clause-shorter c).In-Ok-Some).1
+
+pub unreachable-requires-in-Err : goal.unreachable-requires-in-Err
+unreachable-requires-in-Err c =
     let h = c.args.self.now in
-    let w = (bounds h.w _ h.left h.rest.now c.requires.0).0 in
-    let e : ◌≡◌ {A = One} (Err c.in_default.field-0) (run h.w h.rest.now) = c.in_default.ensures ∙ run_at_small h.w h.rest.now w in
-    search rules
+    load_ok h.runs.w h.runs.left c.next.new.self.left h.runs.rest.now c.next.new.self.rest.now h.current c.requires.1.0 c.requires.0 c.in-Err.field-0 (stepped_at h.runs.w (2 ^ 32 - 1) h.runs.left h.runs.rest.now h.runs.w _ (bounds h.runs.w _ h.runs.left h.runs.rest.now c.requires.0).0 refl c.in-Err.ensures.given)

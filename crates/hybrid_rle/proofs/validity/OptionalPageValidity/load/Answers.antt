@@ -1,32 +1,28 @@
-use Rattle.std.proofs.Common.{◌≡◌, ◌++◌, Ok, sym, ap, ◌∙◌, arith, rules}
-use Rattle.hybrid_rle.specs.Runs.{One, run, packed, repeated}
+use Rattle.std.proofs.Common.{◌≤◌, ◌∷◌, Some, Ok, sym, ap, ◌∙◌, subst, arith}
 use Rattle.hybrid_rle.specs.Rows.{later}
-use Rattle.hybrid_rle.specs.Held.{held}
 use Rattle.hybrid_rle.specs.Borrowed.{stretch}
-use Rattle.hybrid_rle.proofs.Pieces.{packed_on, repeated_on, packed_room}
+use Rattle.hybrid_rle.specs.Held.{rows, run_end, bytes_end}
+use Rattle.hybrid_rle.proofs.Pieces.{rows_on, run_within, gives_after}
+use Rattle.hybrid_rle.proofs.Streams.{Stepped, stepped_at}
 use Rattle.hybrid_rle.proofs.validity.OptionalPageValidity.load.Goals as goal
+use Rattle.hybrid_rle.proofs.validity.OptionalPageValidity.load.Goals.{After-rows}
 
 pub invariant_of-self : goal.invariant_of-self
 invariant_of-self c =
-    let e : ◌≡◌ {A = One} (Ok (packed c.in-Bitmap.bytes.now c.in-Bitmap.length, c.in-Ok.rest.now)) (run 1 c.args.self.now.rest.now) = sym (ap (λ r. Ok (stretch r, c.in-Ok.rest.now)) c.in-Bitmap.is) ∙ c.in-Ok.ensures in
-    let o = packed_on c.args.self.now.left c.in-Bitmap.length c.args.self.now.rest.now c.in-Bitmap.bytes.now c.in-Ok.rest.now c.min-length.result c.requires.1 e c.args.self.now.gives c.min-length.ensures in
-    let r = packed_room c.args.self.now.rest.now c.in-Bitmap.bytes.now c.in-Ok.rest.now c.in-Bitmap.length e in
-    record { gives = o.1; whole = omega arith; near = omega arith }
+    let h = c.args.self.now in
+    record { one_bit = c.next.ensures.width ∙ h.one_bit; gives = gives_after c.next.result h.runs c.next.new.self h.one_bit c.next.ensures.given c.next.ensures.kept h.gives; inside = h.inside }
 
-pub returns-in-Bitmap : goal.returns-in-Bitmap
-returns-in-Bitmap c =
-    let e : ◌≡◌ {A = One} (Ok (packed c.in-Bitmap.bytes.now c.in-Bitmap.length, c.in-Ok.rest.now)) (run 1 c.args.self.now.rest.now) = sym (ap (λ r. Ok (stretch r, c.in-Ok.rest.now)) c.in-Bitmap.is) ∙ c.in-Ok.ensures in
-    let o = packed_on c.args.self.now.left c.in-Bitmap.length c.args.self.now.rest.now c.in-Bitmap.bytes.now c.in-Ok.rest.now c.min-length.result c.requires.1 e c.args.self.now.gives c.min-length.ensures in
-    record { same = o.0 ∙ sym (ap (λ x. held x ++ later c.args.self.now.left c.args.self.now.rest.now) c.requires.0); some = search rules }
+-- the run that was given
+on : (c : After-rows) → Stepped 1 1 c.args.self.now.runs.left c.args.self.now.runs.rest.now (Ok (Some (stretch c.in_ok-run-in-Ok.field-0, c.next.new.self.left, c.next.new.self.rest.now)))
+on c =
+    let h = c.args.self.now in
+    stepped_at 1 1 h.runs.left h.runs.rest.now h.runs.w _ (omega arith) h.one_bit (rw c.in_ok-run-in-Ok.was at c.in-Ok.ensures.given)
 
-pub invariant_of-self-in-Repeated : goal.invariant_of-self-in-Repeated
-invariant_of-self-in-Repeated c =
-    let e : ◌≡◌ {A = One} (Ok (repeated c.in-Repeated.value c.in-Repeated.length, c.in-Ok.rest.now)) (run 1 c.args.self.now.rest.now) = sym (ap (λ r. Ok (stretch r, c.in-Ok.rest.now)) c.in-Repeated.is) ∙ c.in-Ok.ensures in
-    let o = repeated_on c.args.self.now.left c.in-Repeated.length c.in-Repeated.value c.args.self.now.rest.now c.in-Ok.rest.now c.min-length-in-Repeated.result c.requires.1 e c.args.self.now.gives c.min-length-in-Repeated.ensures in
-    record { gives = o.1; whole = omega arith; near = omega arith }
+pub returns-clause-given : goal.returns-clause-given
+returns-clause-given c =
+    let h = c.args.self.now in
+    let n = c.next.new.self in
+    ap (λ p. rows p ∷ later n.left n.rest.now) c.rows.ensures.piece ∙ rows_on h.runs.left n.left h.runs.rest.now n.rest.now h.gives c.in_ok-run-in-Ok.field-0 (on c)
 
-pub returns-in-Repeated : goal.returns-in-Repeated
-returns-in-Repeated c =
-    let e : ◌≡◌ {A = One} (Ok (repeated c.in-Repeated.value c.in-Repeated.length, c.in-Ok.rest.now)) (run 1 c.args.self.now.rest.now) = sym (ap (λ r. Ok (stretch r, c.in-Ok.rest.now)) c.in-Repeated.is) ∙ c.in-Ok.ensures in
-    let o = repeated_on c.args.self.now.left c.in-Repeated.length c.in-Repeated.value c.args.self.now.rest.now c.in-Ok.rest.now c.min-length-in-Repeated.result c.requires.1 e c.args.self.now.gives c.min-length-in-Repeated.ensures in
-    record { same = o.0 ∙ sym (ap (λ x. held x ++ later c.args.self.now.left c.args.self.now.rest.now) c.requires.0); some = search rules }
+pub returns-clause-inside : goal.returns-clause-inside
+returns-clause-inside c = (subst (λ p. run_end (Some p) ≤ bytes_end (Some p)) (sym c.rows.ensures.piece) (run_within c.in_ok-run-in-Ok.field-0 (on c).3), c.rows.ensures.near)

@@ -1,42 +1,46 @@
-use Rattle.std.proofs.Common.{◌≡◌, ◌-◌, ◌^◌, ◌<◌, ◌≤◌, [], ◌∷◌, ◌++◌, sym, ap, ◌∙◌, subst, arith}
-use Rattle.hybrid_rle.specs.Rows.{bits, later}
-use Rattle.hybrid_rle.specs.Held.{held, run_end, bytes_end}
+use Rattle.std.proofs.Common.{◌≡◌, [], ◌∷◌, ◌++◌, Some, sym, refl, ap, ◌∙◌, arith}
+use Rattle.hybrid_rle.specs.Rows.{later, piece, beyond}
+use Rattle.hybrid_rle.specs.Held.{asked, held, rows}
 use Rattle.hybrid_rle.specs.Cursor.{to_come}
-use Rattle.hybrid_rle.proofs.Pieces.{bits_cut, bits_whole, same_cut, same_whole, onward_is}
+use Rattle.hybrid_rle.proofs.Pieces.{beyond_more, onward_is}
 use Rattle.hybrid_rle.proofs.validity.OptionalPageValidity.next_limited.Goals as goal
-use Rattle.hybrid_rle.proofs.validity.OptionalPageValidity.next_limited.Goals.{in-Nothing+else-self-eq0, in_default}
+use Rattle.hybrid_rle.proofs.validity.OptionalPageValidity.next_limited.Goals.{in-Some, in-None+in_ok-run-in-None, In_err-run-in-None}
 
-pub returns-in-Bitmap-default : goal.returns-in-Bitmap-default
-returns-in-Bitmap-default c =
+pub returns : goal.returns
+returns c =
     let v = c.match-self.self in
-    let bs = c.in-Bitmap-default.bytes.now in
-    let f : to_come v ≡ to_come c.args.self.now = elim c.match-self.branch [ in-Nothing+else-self-eq0 w ↦ ap to_come w.self-is ∙ w.load.ensures.same | in_default w ↦ ap to_come w.self-is ] in
-    let e = sym (ap (λ x. held x ++ later v.left v.rest.now) c.in-Bitmap-default.is-0) ∙ f in
-    let p = bits_cut bs c.in-Bitmap-default.offset c.in-Bitmap-default.length c.args.limit _ _ e c.if-limit-length.true in
-    let i = subst (λ x. run_end x ≤ bytes_end x) c.in-Bitmap-default.is-0 v.whole in
-    let j = subst (λ x. run_end x < 2 ^ 64) c.in-Bitmap-default.is-0 v.near in
-    let q = ap (λ o. (bits bs o (c.in-Bitmap-default.length - c.args.limit) ∷ []) ++ later v.left v.rest.now) c.row_after.ensures ∙ p.1 in
-    record { given = p.0; after = q; onward = onward_is c.args.limit _ _ _ p.0 q; inside = (omega arith, omega arith) }
+    let h = c.args.self.now in
+    let others = later v.runs.left v.runs.rest.now in
+    let f : rows c.match-self.run ∷ others ≡ to_come h = elim c.match-self.branch [
+      | in-Some w ↦
+          ap (λ r. rows r ∷ others) w.run-is
+          ∙ ap (λ s. rows w.in-Some.run' ∷ later s.runs.left s.runs.rest.now) w.self-is
+          ∙ ap (λ o. held o ++ later h.runs.left h.runs.rest.now) (sym w.in-Some.is)
+      | in-None+in_ok-run-in-None w ↦
+          ap (λ r. rows r ∷ others) w.run-is
+          ∙ ap (λ s. rows w.in_ok-run-in-None.run' ∷ later s.runs.left s.runs.rest.now) w.self-is
+          ∙ w.in_ok-run-in-None.ensures.given
+          ∙ ap (λ o. held o ++ later h.runs.left h.runs.rest.now) (sym w.in-None.is)
+    ] in
+    let g = ap Some c.split_at.ensures.first ∙ ap (piece c.args.limit) f in
+    let a = ap (λ x. x ++ others) c.split_at.ensures.rest ∙ beyond_more c.args.limit (rows c.match-self.run) others ∙ ap (beyond c.args.limit) f in
+    record { given = g; after = a; onward = onward_is c.args.limit _ _ _ g a; inside = c.split_at.ensures.first_inside }
 
-pub returns-in-Bitmap-default-2 : goal.returns-in-Bitmap-default-2
-returns-in-Bitmap-default-2 c =
-    let f : to_come c.match-self.self ≡ to_come c.args.self.now = elim c.match-self.branch [ in-Nothing+else-self-eq0 w ↦ ap to_come w.self-is ∙ w.load.ensures.same | in_default w ↦ ap to_come w.self-is ] in
-    let e = sym (ap (λ x. held x ++ later c.match-self.self.left c.match-self.self.rest.now) c.in-Bitmap-default.is-0) ∙ f in
-    let p = bits_whole c.in-Bitmap-default.bytes.now c.in-Bitmap-default.offset c.in-Bitmap-default.length c.args.limit _ _ e c.if-limit-length.false in
-    let i = subst (λ x. run_end x ≤ bytes_end x) c.in-Bitmap-default.is-0 c.match-self.self.whole in
-    let j = subst (λ x. run_end x < 2 ^ 64) c.in-Bitmap-default.is-0 c.match-self.self.near in
-    record { given = p.0; after = p.1; onward = onward_is c.args.limit _ _ _ p.0 p.1; inside = (omega arith, omega arith) }
+-- no row is left, before and after
+none : (c : In_err-run-in-None) → (to_come c.args.self.now ≡ []) × (to_come c.load.new.self ≡ [])
+none c =
+    let h = c.args.self.now in
+    let n = c.load.new.self in
+    let e = c.in_err-run-in-None.ensures in
+    let z = ap (λ k. later k n.runs.rest.now) (e.ended refl) in (
+      ap (λ o. held o ++ later h.runs.left h.runs.rest.now) c.in-None.is ∙ sym e.given ∙ z,
+      ap (λ o. held o ++ later n.runs.left n.runs.rest.now) (e.current ∙ c.in-None.is) ∙ z,
+    )
 
-pub returns-in-Repeated-default : goal.returns-in-Repeated-default
-returns-in-Repeated-default c =
-    let f : to_come c.match-self.self ≡ to_come c.args.self.now = elim c.match-self.branch [ in-Nothing+else-self-eq0 w ↦ ap to_come w.self-is ∙ w.load.ensures.same | in_default w ↦ ap to_come w.self-is ] in
-    let e = sym (ap (λ x. held x ++ later c.match-self.self.left c.match-self.self.rest.now) c.in-Repeated-default.is-0) ∙ f in
-    let p = same_cut c.in-Repeated-default.is_set c.in-Repeated-default.length c.args.limit _ _ e c.if-limit-length-2.true in
-    record { given = p.0; after = p.1; onward = onward_is c.args.limit _ _ _ p.0 p.1; inside = tt }
-
-pub returns-in-Repeated-default-2 : goal.returns-in-Repeated-default-2
-returns-in-Repeated-default-2 c =
-    let f : to_come c.match-self.self ≡ to_come c.args.self.now = elim c.match-self.branch [ in-Nothing+else-self-eq0 w ↦ ap to_come w.self-is ∙ w.load.ensures.same | in_default w ↦ ap to_come w.self-is ] in
-    let e = sym (ap (λ x. held x ++ later c.match-self.self.left c.match-self.self.rest.now) c.in-Repeated-default.is-0) ∙ f in
-    let p = same_whole c.in-Repeated-default.is_set c.in-Repeated-default.length c.args.limit _ _ e c.if-limit-length-2.false in
-    record { given = p.0; after = p.1; onward = onward_is c.args.limit _ _ _ p.0 p.1; inside = tt }
+pub returns-in_err-run-in-None : goal.returns-in_err-run-in-None
+returns-in_err-run-in-None c =
+    let n = none (goal.at.returns-in_err-run-in-None c).In_err-run-in-None in
+    let r = c.from_residual.ensures in
+    let g = ap asked r ∙ sym (ap (piece c.args.limit) n.0) in
+    let a = n.1 ∙ sym (ap (beyond c.args.limit) n.0) in
+    record { given = g; after = a; onward = onward_is c.args.limit _ _ _ g a; inside = rw r (omega arith, omega arith) }
