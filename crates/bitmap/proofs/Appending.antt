@@ -1,5 +1,5 @@
 -- appends one after another
-use Rattle.std.proofs.Common.{◌≡◌, ℕ, ◌+◌, ◌-◌, ◌≤◌, Bool, List, [], ◌∷◌, ◌++◌, map, length, sym, refl, ap, ◌∙◌, arith, append_assoc, length-append}
+use Rattle.std.proofs.Common.{◌≡◌, ℕ, ◌+◌, ◌-◌, ◌≤◌, Bool, List, [], ◌∷◌, ◌++◌, map, length, sym, refl, ap, ◌∙◌, subst, arith, append_assoc, length-append}
 use Rattle.std.specs.List.{range_with_len}
 use Rattle.std.proofs.lemmas.List.{append-nil}
 use Rattle.std.proofs.lemmas.List.FromFn.{length-map-range_with_len, map-range_with_len_more}
@@ -9,8 +9,14 @@ use Rattle.bitmap.specs.declared.mutable.MutableBitmap.{MutableBitmap}
 use Rattle.bitmap.proofs.Laws.{beyond_fewer}
 use Rattle.bitmap.proofs.Runs.{map_counting_append}
 
+pub between_none : (f : ℕ → Bool) (a : ℕ) → bits_between f a a ≡ []
+between_none f a = let p : a - a ≡ 0 = omega arith in ap (λ t. map f (range_with_len a t)) p
+
 pub appends_none : (b : MutableBitmap) → Appends b b []
 appends_none b = record { count = omega arith; items = sym (append-nil (bits b.used b.buffer.now)); room = refl; home = refl; beyond = λ _ _. refl }
+
+pub appends_start : (f : ℕ → Bool) (b : MutableBitmap) (a e : ℕ) → a ≡ e → Appends b b (bits_between f a e)
+appends_start f b a e h = subst (Appends b b) (sym (between_none f a) ∙ ap (bits_between f a) h) (appends_none b)
 
 pub appends_then : {a b c : MutableBitmap} {xs ys : List Bool} → Appends a b xs → Appends b c ys → Appends a c (xs ++ ys)
 appends_then {a} {b} {c} {xs} {ys} p q = record {
@@ -33,9 +39,6 @@ pub between_more : (f : ℕ → Bool) (a i : ℕ) → a ≤ i → bits_between f
 between_more f a i h =
     let p : i - a + 1 ≡ i + 1 - a = omega arith in
     sym (map-range_with_len_more f a (i - a) i (omega arith)) ∙ ap (λ t. map f (range_with_len a t)) p
-
-pub between_none : (f : ℕ → Bool) (a : ℕ) → bits_between f a a ≡ []
-between_none f a = let p : a - a ≡ 0 = omega arith in ap (λ t. map f (range_with_len a t)) p
 
 pub length_between : (f : ℕ → Bool) (a e : ℕ) → length (bits_between f a e) ≡ e - a
 length_between f a e = length-map-range_with_len f a (e - a)

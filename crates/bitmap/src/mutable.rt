@@ -60,6 +60,7 @@ impl<'a> MutableBitmap<'a> {
     pub fn get(&self, i: usize) -> Option<bool>
         ensures { result ≡ (if nat_lt i self.now.used then Some (bit_at self.now.buffer.now i) else None) }
     {
+        // `then` would need a contract on its closure.
         if i < self.used {
             Some(bit_of(self.buffer, i))
         } else {

@@ -1,4 +1,4 @@
-use bitmap::mutable::MutableBitmap;
+use bitmap::mutable::{Full, MutableBitmap, Refusal};
 use bitmap::utils::{BitmapIter, get_bit};
 use std::process::Abort;
 use std::test::Fail;
@@ -60,13 +60,13 @@ fn refusals_at_the_edge(rt: HostRuntime) {
     let mut memory = [0xFFu8; 2];
     let mut map = MutableBitmap::new(&mut memory);
     assert!(rt; map.extend_constant(15, true).is_ok());
-    assert!(rt; map.extend_constant(2, false).is_err());
-    assert!(rt; map.extend_from_slice(&SOURCE, 0, 2).is_err());
+    assert_eq!(rt; map.extend_constant(2, false), Err(Full));
+    assert_eq!(rt; map.extend_from_slice(&SOURCE, 0, 2), Err(Refusal::Full));
     assert_eq!(rt; map.len(), 15);
     assert!(rt; map.push(false).is_ok());
-    assert!(rt; map.push(true).is_err());
-    assert!(rt; map.extend_from_slice(&SOURCE, 96, 1).is_err());
-    assert!(rt; map.extend_from_slice(&SOURCE, 97, 0).is_err());
+    assert_eq!(rt; map.push(true), Err(Full));
+    assert_eq!(rt; map.extend_from_slice(&SOURCE, 96, 1), Err(Refusal::Outside));
+    assert_eq!(rt; map.extend_from_slice(&SOURCE, 97, 0), Err(Refusal::Outside));
     assert!(rt; map.extend_from_slice(&SOURCE, 96, 0).is_ok());
     assert_eq!(rt; map.len(), 16);
     assert_eq!(rt; memory[0], 0xFF);

@@ -48,8 +48,7 @@ impl<'a> Binary<'a> {
         ensures { MatchOption result (self.now.rows ≤ i) (λ b. (i < self.now.rows) × (b.now ≡ row self.now.offsets.now self.now.bytes.now i)) }
     {
         let (at, end) = self.bounds(i)?;
-        let all: &[u8] = self.bytes;
-        Some(&all[at..end])
+        Some(&self.bytes[at..end])
     }
 
     // Where row i begins and where it ends, if there is one.
@@ -107,7 +106,7 @@ impl<'a> Binary<'a> {
         ensures home { self.new.offsets.ghost_name ≡ self.old.offsets.ghost_name }
         ensures bytes { self.new.bytes ≡ self.old.bytes }
     {
-        for i in 0..n {
+        for _ in 0..n {
             self.end_row(0);
         }
     }

@@ -41,7 +41,8 @@ impl<'a> Validity for MutableBitmap<'a> {
     }
 }
 
-// A column of flags is a bitmap too. The stand-in for a null is a bit 0.
+// A column of flags is a bitmap too. The stand-in for a null is a bit 0. Both traits have a len, a capacity and a clear,
+// so each impl passes them on.
 impl<'a> Sink for MutableBitmap<'a> {
     type Item = bool;
 

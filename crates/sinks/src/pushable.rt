@@ -9,7 +9,8 @@ use bitmap::mutable::Refusal;
 use values::{Meant, Valued};
 
 // A sink means a list of values, and has room for some rows and some bytes. It refuses exactly when its list would
-// outgrow its room, and then nothing is changed, to the last byte of its memory.
+// outgrow its room, and then nothing is changed, to the last byte of its memory. The clauses stand in full at each method,
+// here and in the two traits below, since proofs of the crates above cite each by its name.
 pub trait Sink {
     type Item: Meant + Copy;
 

@@ -1,5 +1,5 @@
 // Appending to a bitmap: a bit, or many bits of a source.
-#![tactic(auto, using(crate::proofs::Appending::length_between))]
+#![tactic(auto, using(crate::proofs::Appending::length_between, crate::proofs::Appending::appends_start))]
 
 ghost use Rattle.std.specs.Prelude.{◌≡◌, ◌+◌, ◌-◌, ◌%◌, ◌<◌, ◌≤◌, [], ◌∷◌, length, replicate, is_ok, OnOk, OnErr, nat_le, nat_lt};
 ghost use Rattle.bitmap.specs.Appends.{Appends};
@@ -88,6 +88,7 @@ impl<'a> MutableBitmap<'a> {
         requires aligned { start < end → self.old.used % 8 ≡ 0 }
         ensures { Appends self.old self.new (bits_between (S.at source.now) start end) }
     {
+        // Tried, and half as fast: `(start..end).step_by(8)`.
         for i in 0..(end - start) / 8 {
             self.push_byte(source.byte(start + 8 * i));
         }

@@ -1,11 +1,8 @@
-use Rattle.std.proofs.Common.{◌≡◌, [], ◌∷◌, ◌++◌, sym, ap, ◌∙◌, subst, arith}
+use Rattle.std.proofs.Common.{◌≡◌, [], ◌∷◌, ◌++◌, ap, ◌∙◌, subst, arith}
 use Rattle.bitmap.specs.Appends.{Appends}
 use Rattle.bitmap.specs.Bitmaps.{bits_between}
-use Rattle.bitmap.proofs.Appending.{appends_none, appends_then, between_more, between_none}
+use Rattle.bitmap.proofs.Appending.{appends_then, between_more}
 use Rattle.bitmap.proofs.mutable.MutableBitmap.extend_bits.Goals as goal
-
-pub loop-i-init : goal.loop-i-init
-loop-i-init g c = let s = c.args.self.now in subst (Appends s s) (sym (between_none (g.S.Bits.at c.args.source.now) c.args.start)) (appends_none s)
 
 pub loop-i-preserved : goal.loop-i-preserved
 loop-i-preserved g c =

@@ -1,14 +1,8 @@
-use Rattle.std.proofs.Common.{◌≡◌, ◌+◌, ◌*◌, ◌++◌, sym, ap, ◌∙◌, subst, arith}
+use Rattle.std.proofs.Common.{◌≡◌, ◌+◌, ◌*◌, ◌++◌, ap, ◌∙◌, subst, arith}
 use Rattle.bitmap.specs.Appends.{Appends}
 use Rattle.bitmap.specs.Bitmaps.{bits_between}
-use Rattle.bitmap.proofs.Appending.{appends_none, appends_then, between_append, between_none}
+use Rattle.bitmap.proofs.Appending.{appends_then, between_append}
 use Rattle.bitmap.proofs.mutable.MutableBitmap.extend_bytes.Goals as goal
-
-pub loop-i-init : goal.loop-i-init
-loop-i-init g c =
-    let s = c.args.self.now in let f = g.S.Bits.at c.args.source.now in
-    let here : c.args.start ≡ c.args.start + 0 = omega arith in
-    subst (Appends s s) (sym (between_none f c.args.start) ∙ ap (bits_between f c.args.start) here) (appends_none s)
 
 pub loop-i-preserved : goal.loop-i-preserved
 loop-i-preserved g c =

@@ -6,10 +6,10 @@ use Rattle.bitmap.proofs.mutable.MutableBitmap.push_unchecked.Goals as goal
 inside : (n m : ℕ) → n < capacity m → n / 8 < m
 inside n m h = omega arith
 
-pub invariant_of-self : goal.invariant_of-self
-invariant_of-self c =
+pub invariant_of-self-clause-tidy : goal.invariant_of-self-clause-tidy
+invariant_of-self-clause-tidy c =
     let bs = c.args.self.now.buffer.now in let n = c.args.self.now.used in
-    let w = inside n (length bs) c.requires in record { within = omega (arith, length-set bs (n / 8) c.with_bit.result); tidy = subst (λ t. Tidy (n + 1) (set bs (n / 8) t)) (sym c.with_bit.ensures) (tidy_pushed bs n c.args.value w) }
+    subst (λ t. Tidy (n + 1) (set bs (n / 8) t)) (sym c.with_bit.ensures) (tidy_pushed bs n c.args.value (inside n (length bs) c.requires))
 
 pub returns : goal.returns
 returns c =
