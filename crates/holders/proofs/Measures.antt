@@ -54,12 +54,6 @@ needed_byte xs ys b count i e c h = (ap (λ n. n + bool_byte b) c ∙ sym (ap ne
     most true = omega arith
     most false = omega arith
 
-pub filled_length : (b : Value) (bs : List Bool) (vs : List Value) → needed bs ≤ length vs → length (filled b bs vs) ≡ length bs
-filled_length b [] vs h = refl
-filled_length b (true ∷ bs) [] h = absurd (omega arith)
-filled_length b (true ∷ bs) (v ∷ vs) h = ap suc (filled_length b bs vs (omega arith))
-filled_length b (false ∷ bs) vs h = ap suc (filled_length b bs vs h)
-
 -- stand-ins weigh nothing
 pub filled_weight : (b : Value) (bs : List Bool) (vs : List Value) → weight b ≡ 0 → needed bs ≤ length vs → weights (filled b bs vs) ≡ weights (take (needed bs) vs)
 filled_weight b [] vs l h = refl

@@ -1,5 +1,5 @@
 -- Indices, one after the other.
-use Rattle.std.proofs.Common.{◌≡◌, ℕ, zero, suc, ◌+◌, ◌-◌, ◌*◌, ◌^◌, ◌<◌, ◌≤◌, min, Bool, true, false, cond, ◌&&◌, leb, List, [], ◌∷◌, length, replicate, is_some, Some, None, Ok, Err, Option, Result, sym, refl, ap, ◌∙◌, mul-le-mul_right, suc-mul, arith, le-leb, leb-true}
+use Rattle.std.proofs.Common.{◌≡◌, ℕ, zero, suc, ◌+◌, ◌-◌, ◌*◌, ◌^◌, ◌<◌, ◌≤◌, min, Bool, true, false, cond, ◌&&◌, leb, List, [], ◌∷◌, length, is_some, Some, None, Ok, Err, Option, Result, sym, refl, ap, ◌∙◌, suc-mul, arith, le-leb, leb-true}
 use Rattle.hybrid_rle.specs.Runs.{Stretch, run, runs, ahead, allowed, numbers, count, field, fields}
 use Rattle.hybrid_rle.specs.declared.header.Broken.{Broken}
 use Rattle.hybrid_rle.specs.declared.header.Broken.TheVariants.{Above}
@@ -48,9 +48,6 @@ run_fits w at n len left bs rest h =
     let l = leb-true _ _ (fit_of (leb (at + n * w) (min (8 * len) (2 ^ 26))) (fields w n bs at) c.0) in
     (omega arith, omega arith)
 
-pub one_fits : (w at n m : ℕ) → 0 < n → at + n * w ≤ m → at + w ≤ m
-one_fits w at n m h l = let k : 1 * w ≤ n * w = mul-le-mul_right w (omega arith) in omega arith
-
 pub pop_packed : (w at n len v left : ℕ) (bs rest : List ℕ) → 0 < n → v ≡ field w bs at → is_some (all_to_come w (cond (leb (at + n * w) (min (8 * len) (2 ^ 26))) (Some (fields w n bs at)) None) left rest) ≡ true → put v (all_to_come w (cond (leb (at + w + (n - 1) * w) (min (8 * len) (2 ^ 26))) (Some (fields w (n - 1) bs (at + w))) None) left rest) ≡ all_to_come w (cond (leb (at + n * w) (min (8 * len) (2 ^ 26))) (Some (fields w n bs at)) None) left rest
 pop_packed w at zero len v left bs rest h e s = absurd (omega arith)
 pop_packed w at (suc n) len v left bs rest h e s =
@@ -59,12 +56,6 @@ pop_packed w at (suc n) len v left bs rest h e s =
     let z : at + w + n * w ≡ at + suc n * w = omega (arith, suc-mul n w) in
     let t : leb (at + suc n * w) (min (8 * len) (2 ^ 26)) ≡ true = le-leb _ _ (omega arith) in
     rw (m, z, t, e) (put_numbers (leb w 32 && leb left 1048576) (field w bs at) (fields w n bs (at + w)) (runs w (2 ^ 32 - 1) left rest))
-
-pub pop_repeated : (w n v left : ℕ) (rest : List ℕ) → 0 < n → put v (all_to_come w (Some (replicate (n - 1) v)) left rest) ≡ all_to_come w (Some (replicate n v)) left rest
-pop_repeated w zero v left rest h = absurd (omega arith)
-pop_repeated w (suc n) v left rest h =
-    let m : suc n - 1 ≡ n = omega arith in
-    rw m (put_numbers (leb w 32 && leb left 1048576) v (replicate n v) (runs w (2 ^ 32 - 1) left rest))
 
 -- the next run
 none_left : (w : ℕ) (c : Option (Piece ℕ)) → current_count c ≡ 0 → is_some (current_numbers w c) ≡ true → current_numbers w c ≡ Some []

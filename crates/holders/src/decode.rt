@@ -43,7 +43,8 @@ pub(crate) fn push_piece<'p, C: Cursor, P: Pushable<C::Item>, V: Validity>(
     }
 }
 
-// The next `limit` rows of the page into sink and validity, the present ones with the next values.
+// The next `limit` rows of the page into sink and validity, the present ones with the next values. The clauses of Fills stand one by
+// one here, since callers cite each by its name.
 pub(crate) fn extend_from_decoder<'p, C: Cursor, P: Pushable<C::Item>, V: Validity>(
     validity: &mut V,
     page: &mut OptionalPageValidity<'p>,

@@ -16,7 +16,7 @@ pub(crate) fn weigh_within<C: Cursor>(values: &mut C, n: usize, most: usize) -> 
     ensures { result ≡ nat_le (weights (take n (C.Cursor.left values.old))) most }
 {
     let mut spare = most;
-    for i in 0..n {
+    for _i in 0..n {
         let Some(v) = values.next() else {
             return unreachable();
         };
@@ -29,7 +29,8 @@ pub(crate) fn weigh_within<C: Cursor>(values: &mut C, n: usize, most: usize) -> 
     true
 }
 
-// How many of the next `limit` rows are present.
+// How many of the next `limit` rows are present. The loop is that of `extend_from_decoder` with another step: shared, its step would
+// be a closure that has the loop's invariant for a contract, which is no plainer.
 pub(crate) fn count_present<'p>(page: &mut OptionalPageValidity<'p>, limit: usize) -> usize
     requires { limit ≤ length (flat (to_come page.old)) }
     ensures { result ≡ needed (take limit (flat (to_come page.old))) }

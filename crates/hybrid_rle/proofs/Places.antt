@@ -74,20 +74,20 @@ little_take (suc k) (b ∷ xs) h =
     let i = little_take k xs (λ i. h (suc i)) in
     rw (e, mod-pow-add (b + 256 * little xs) (8 * k) 8, q, r, i) (omega arith)
 
-part_is : (y s w : ℕ) → s + w ≤ 64 → (y % 2 ^ 64) / 2 ^ s % 2 ^ w ≡ y / 2 ^ s % 2 ^ w
+part_is : (y s w : ℕ) → s + w ≤ 40 → (y % 2 ^ 40) / 2 ^ s % 2 ^ w ≡ y / 2 ^ s % 2 ^ w
 part_is y s w h =
-    let j : 64 ≡ (64 - s) + s = omega arith in
-    let k : 64 - s ≡ (64 - s - w) + w = omega arith in
-    ap (λ n. (y % 2 ^ n) / 2 ^ s % 2 ^ w) j ∙ ap (λ n. n % 2 ^ w) (field_of y (64 - s) s) ∙ ap (λ n. y / 2 ^ s % 2 ^ n % 2 ^ w) k ∙ mod-mod-pow (y / 2 ^ s) (64 - s - w) w
+    let j : 40 ≡ (40 - s) + s = omega arith in
+    let k : 40 - s ≡ (40 - s - w) + w = omega arith in
+    ap (λ n. (y % 2 ^ n) / 2 ^ s % 2 ^ w) j ∙ ap (λ n. n % 2 ^ w) (field_of y (40 - s) s) ∙ ap (λ n. y / 2 ^ s % 2 ^ n % 2 ^ w) k ∙ mod-mod-pow (y / 2 ^ s) (40 - s - w) w
 
--- eight bytes suffice
-pub eight_bytes : (bs : List ℕ) (w at : ℕ) → Bytes bs → w ≤ 32 → little (take 8 (drop (at / 8) bs)) / 2 ^ (at % 8) % 2 ^ w ≡ field w bs at
-eight_bytes bs w at h l =
+-- five bytes suffice
+pub five_bytes : (bs : List ℕ) (w at : ℕ) → Bytes bs → w ≤ 32 → little (take 5 (drop (at / 8) bs)) / 2 ^ (at % 8) % 2 ^ w ≡ field w bs at
+five_bytes bs w at h l =
     let d : Bytes (drop (at / 8) bs) = λ i. rw get_or-drop (h (at / 8 + i)) in
     let e : at ≡ 8 * (at / 8) + at % 8 = omega arith in
-    let s : at % 8 + w ≤ 64 = omega arith in
+    let s : at % 8 + w ≤ 40 = omega arith in
     let x : little bs / 2 ^ (8 * (at / 8)) / 2 ^ (at % 8) ≡ little bs / 2 ^ at = shr-shr (little bs) (8 * (at / 8)) (at % 8) ∙ ap (λ n. little bs / 2 ^ n) (sym e) in
-    rw (little_take 8 (drop (at / 8) bs) d, part_is (little (drop (at / 8) bs)) (at % 8) w s, little_drop (at / 8) bs h, x, field_is w bs at h) refl
+    rw (little_take 5 (drop (at / 8) bs) d, part_is (little (drop (at / 8) bs)) (at % 8) w s, little_drop (at / 8) bs h, x, field_is w bs at h) refl
 
 -- a place past the end
 pub drop_min : (n : ℕ) (bs : List ℕ) → drop (min n (length bs)) bs ≡ drop n bs

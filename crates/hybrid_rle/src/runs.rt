@@ -8,7 +8,7 @@ use crate::header::{Broken, read_header};
 use crate::piece::Piece;
 use crate::unpack::unpacked;
 
-// A run of numbers, over the bytes that it was read from.
+// A run of numbers, over the bytes that it was read from: packed ones begin at the first bit, where a Piece may begin at any.
 #[derive(Clone, Copy)]
 pub enum Run<'a> {
     Bitmap { bytes: &'a [u8], length: usize },
@@ -145,7 +145,7 @@ pub fn next_run<'a>(bytes: &'a [u8], w: u8) -> Result<(Run<'a>, &'a [u8]), Broke
     read_run(bytes, w)
 }
 
-// The next `left` numbers of `w` bits of a stream of runs.
+// The next `left` numbers of `w` bits of a stream of runs, run by run. No Iterator, since `?` wants the Result outside.
 #[derive(Clone, Copy)]
 pub struct Runs<'a> {
     pub w: u8,

@@ -13,21 +13,25 @@ unreachable-requires g c =
     let z = piece_none (c.args.limit - c.loop-done.done) (to_come c.loop-done.page) (to_come c.next_limited.new.self) c.in_default.ensures.given c.in_default.ensures.after in
     not_ended (flat (to_come c.args.page.now)) c.loop-done.done c.args.limit (sym z.0 ∙ c.loop-done.invariant.1) c.loop-done-test.true c.requires.rows
 
-pub push_piece-requires : goal.push_piece-requires
-push_piece-requires g c =
+pub push_piece-requires-clause-able : goal.push_piece-requires-clause-able
+push_piece-requires-clause-able g c =
     let F = flat (to_come c.args.page.now) in
     let xs = rows c.in-Some.piece in
     let m : length xs ≤ c.args.limit - c.loop-done.done = piece_most (c.args.limit - c.loop-done.done) xs (to_come c.next_limited.new.self) (to_come c.loop-done.page) c.in-Some.ensures.given in
     let t = c.loop-done-test.true in
     let n : c.loop-done.done + length xs ≤ c.args.limit = omega arith in
+    let e = all_rows F xs (flat (to_come c.next_limited.new.self)) c.loop-done.done c.args.limit (c.in-Some.ensures.onward ∙ c.loop-done.invariant.1) (omega (arith, c.requires.rows)) n in
+    mid_able _ _ (take c.args.limit F) (take c.loop-done.done F) xs (take (c.args.limit - (c.loop-done.done + length xs)) (flat (to_come c.next_limited.new.self))) _ e c.requires.able _ _ _ c.loop-done.invariant.4 c.loop-done.invariant.2 c.loop-done.invariant.3
+
+pub push_piece-requires-clause-space : goal.push_piece-requires-clause-space
+push_piece-requires-clause-space g c =
+    let F = flat (to_come c.args.page.now) in
+    let xs = rows c.in-Some.piece in
+    let m = piece_most (c.args.limit - c.loop-done.done) xs (to_come c.next_limited.new.self) (to_come c.loop-done.page) c.in-Some.ensures.given in
+    let t = c.loop-done-test.true in
     let u = bits_then (g.V.Validity.bits c.args.validity.now) F (g.V.Validity.bits c.loop-done.validity) c.loop-done.done (omega (arith, c.requires.rows)) c.loop-done.invariant.6 in
     let s = c.requires.space in
-    let e = all_rows F xs (flat (to_come c.next_limited.new.self)) c.loop-done.done c.args.limit (c.in-Some.ensures.onward ∙ c.loop-done.invariant.1) (omega (arith, c.requires.rows)) n in
-    record {
-      inside = c.in-Some.ensures.inside;
-      able = mid_able _ _ (take c.args.limit F) (take c.loop-done.done F) xs (take (c.args.limit - (c.loop-done.done + length xs)) (flat (to_come c.next_limited.new.self))) _ e c.requires.able _ _ _ c.loop-done.invariant.4 c.loop-done.invariant.2 c.loop-done.invariant.3;
-      space = subst (λ k. length (g.V.Validity.bits c.loop-done.validity) + length xs ≤ k) (sym c.loop-done.invariant.7) (omega arith);
-    }
+    subst (λ k. length (g.V.Validity.bits c.loop-done.validity) + length xs ≤ k) (sym c.loop-done.invariant.7) (omega arith)
 
 pub overflow_add-done : goal.overflow_add-done
 overflow_add-done g c =

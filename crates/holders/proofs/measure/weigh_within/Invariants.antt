@@ -3,4 +3,4 @@ use Rattle.values.specs.Values.{weights}
 use Rattle.holders.proofs.measure.weigh_within.Given as goal
 
 abbrev pub invariant-loop-i : goal.invariant-loop-i
-invariant-loop-i g l = (g.C.Cursor.left l.values ≡ drop l.i (g.C.Cursor.left l.initial.values)) × (weights (take l.i (g.C.Cursor.left l.initial.values)) + l.spare ≡ l.most)
+invariant-loop-i g l = (g.C.Cursor.left l.values ≡ drop l._i (g.C.Cursor.left l.initial.values)) × (weights (take l._i (g.C.Cursor.left l.initial.values)) + l.spare ≡ l.most)

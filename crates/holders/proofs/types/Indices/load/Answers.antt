@@ -21,9 +21,6 @@ returns-clause-same c =
     ∙ ap (λ k. all_to_come k (current_numbers k (Some (as_numbers c.in-Ok-Some.run'))) n.left n.rest.now) c.in-Ok-Some.ensures.width
     ∙ load_run h.runs.w h.runs.left n.left h.runs.rest.now n.rest.now h.current c.requires.1.0 c.requires.0 c.in-Ok-Some.run' s
 
-pub returns-clause-shorter : goal.returns-clause-shorter
-returns-clause-shorter c = (on (goal.at.returns-clause-shorter c).In-Ok-Some).1
-
 pub unreachable-requires-in-Err : goal.unreachable-requires-in-Err
 unreachable-requires-in-Err c =
     let h = c.args.self.now in

@@ -1,8 +1,8 @@
-use Rattle.std.proofs.Common.{◌≡◌, ◌<◌, true, length, is_some, Some, sym, ap, ◌∙◌, subst, arith}
+use Rattle.std.proofs.Common.{◌≡◌, ◌<◌, true, length, is_some, Some, sym, ap, ◌∙◌, subst}
 use Rattle.holders.specs.Left.{current_numbers}
 use Rattle.holders.specs.Entries.{current_count}
 use Rattle.hybrid_rle.proofs.Places.{small_width}
-use Rattle.holders.proofs.Onward.{all_to_come, bounds, run_fits, one_fits, pop_packed, pop_repeated}
+use Rattle.holders.proofs.Onward.{all_to_come, bounds, pop_packed}
 use Rattle.holders.proofs.types.Indices.pop.Goals as goal
 
 pub returns-in-Bitmap : goal.returns-in-Bitmap
@@ -14,20 +14,3 @@ returns-in-Bitmap c =
     let n = subst (λ x. 0 < current_count x) e c.requires.1 in
     pop_packed r.w c.in-Bitmap.offset c.in-Bitmap.length (length c.in-Bitmap.bytes.now) c.unpacked-v.result r.left c.in-Bitmap.bytes.now r.rest.now n (c.unpacked-v.ensures ∙ small_width r.w c.in-Bitmap.bytes.now c.in-Bitmap.offset (bounds r.w _ r.left r.rest.now c.requires.0).0) s
     ∙ sym (ap (λ x. all_to_come r.w (current_numbers r.w x) r.left r.rest.now) e)
-
-pub returns-in-Repeated : goal.returns-in-Repeated
-returns-in-Repeated c =
-    let r = c.args.self.now.runs in
-    let e = c.in-Some.is ∙ ap Some c.in-Repeated.is in
-    let n = subst (λ x. 0 < current_count x) e c.requires.1 in
-    pop_repeated r.w c.in-Repeated.length c.in-Repeated.value r.left r.rest.now n
-    ∙ sym (ap (λ x. all_to_come r.w (current_numbers r.w x) r.left r.rest.now) e)
-
-pub overflow_add-offset : goal.overflow_add-offset
-overflow_add-offset c =
-    let r = c.args.self.now.runs in
-    let e = c.in-Some.is ∙ ap Some c.in-Bitmap.is in
-    let s = subst (λ x. is_some (all_to_come r.w (current_numbers r.w x) r.left r.rest.now) ≡ true) e c.requires.0 in
-    let n = subst (λ x. 0 < current_count x) e c.requires.1 in
-    let f = run_fits r.w c.in-Bitmap.offset c.in-Bitmap.length (length c.in-Bitmap.bytes.now) r.left c.in-Bitmap.bytes.now r.rest.now s in
-    omega (arith, f.1, one_fits r.w c.in-Bitmap.offset c.in-Bitmap.length _ n f.1)
