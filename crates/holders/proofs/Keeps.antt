@@ -8,7 +8,7 @@ use Rattle.hybrid_rle.specs.Cursor.{to_come}
 use Rattle.hybrid_rle.specs.Rows.{flat}
 use Rattle.values.specs.Values.{Value, Row, Room, fits, weight, weights, stands}
 use Rattle.model.specs.Model.{bits_for, bits_due}
-use Rattle.holders.specs.Judge.{needed, form_of, spread}
+use Rattle.holders.specs.Judge.{needed, spread}
 use Rattle.holders.specs.Columns.{row_of}
 use Rattle.holders.specs.Filled.{filled}
 use Rattle.holders.specs.Holding.{unused_as}
@@ -25,10 +25,10 @@ use Rattle.sinks.proofs.Rows.{weights_append}
 use Rattle.holders.proofs.Lengths.{has_values, length_given, length_spread}
 
 pub values_number : (v : PageValues) → v.n ≡ length (to_give v)
-values_number v = length_given v.n _ (has_values (form_of v.form) v.n v.values) v.there
+values_number v = length_given v.n _ (has_values v.form v.n v.values) v.there
 
 -- each present row has its value
-pub all_needed : {F : ℕ} (h : Holder F) → needed (present_left h.optional h.rows h.validity) ≡ length (to_give h.values)
+pub all_needed : (h : Holder) → needed (present_left h.optional h.rows h.validity) ≡ length (to_give h.values)
 all_needed h = h.page ∙ values_number h.values
 
 first_all : (k n : ℕ) → k ≤ n → k ≡ needed (take k (replicate n true))
@@ -50,18 +50,18 @@ module _ (f : List ℕ → Value) (light : (bs : List ℕ) → weight (f bs) ≡
   light_fit m spare xs = sym (le-leb _ spare (omega (arith, ap weights (take-map f m xs), weightless (take m xs))))
 
 -- the holder's rows are counted
-pub unused_number : {F : ℕ} (h : Holder F) (f : List ℕ → Value) → length (unused_as f h) ≡ h.rows
+pub unused_number : (h : Holder) (f : List ℕ → Value) → length (unused_as f h) ≡ h.rows
 unused_number h f =
     let ps = present_left h.optional h.rows h.validity in
     length-map (spread ps (to_give h.values)) (row_of f) ∙ length_spread ps (to_give h.values) (all_needed h) ∙ h.count
 
 -- what the loops leave in a holder
-pub record LeftIn {F : ℕ} (h : Holder F) (f : List ℕ → Value) (k : ℕ) (v : OptionalPageValidity) (w : PageValues) : Type 0 where
+pub record LeftIn (h : Holder) (f : List ℕ → Value) (k : ℕ) (v : OptionalPageValidity) (w : PageValues) : Type 0 where
   pub page : needed (present_left h.optional (h.rows - k) v) ≡ w.n
   pub count : length (present_left h.optional (h.rows - k) v) ≡ h.rows - k
   pub rows : map (row_of f) (spread (present_left h.optional (h.rows - k) v) (to_give w)) ≡ drop k (unused_as f h)
 
-module _ {F : ℕ} (h : Holder F) (f : List ℕ → Value) (k : ℕ) (within : k ≤ h.rows) where
+module _ (h : Holder) (f : List ℕ → Value) (k : ℕ) (within : k ≤ h.rows) where
   abbrev ps : List Bool
   ps = present_left h.optional h.rows h.validity
 

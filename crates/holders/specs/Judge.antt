@@ -12,10 +12,6 @@ use Rattle.faults.specs.Faults.{then_do}
 use Rattle.holders.specs.declared.types.Form.{Form}
 use Rattle.holders.specs.declared.types.Form.TheVariants.{Four, Eight, Bits, Arrays}
 
--- the form that a number stands for: 4 or 8 bytes, 1 for bits, 0 for values after their lengths
-abbrev pub form_of : ℕ → Form
-form_of f = cond (f == 8) Eight (cond (f == 1) Bits (cond (f == 0) Arrays Four))
-
 -- go on with what there is
 abbrev pub some_then : {A B : Type 0} → Option A → (A → Option B) → Option B
 some_then (Some x) f = f x

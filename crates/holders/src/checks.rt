@@ -77,14 +77,3 @@ pub(crate) fn bits_fit(n: usize, bytes: &[u8]) -> bool
 {
     (n + 7) / 8 <= bytes.len()
 }
-
-pub(crate) fn form_of(f: u8) -> Form
-    ensures { result ≡ judge.form_of f }
-{
-    match f {
-        8 => Form::Eight,
-        1 => Form::Bits,
-        0 => Form::Arrays,
-        _ => Form::Four,
-    }
-}

@@ -2,12 +2,9 @@ use crate::faulty::{layer_name, meaning};
 use crate::layout::rows_text;
 use crate::words::Wanted;
 use bitmap::mutable::MutableBitmap;
-use deserialize::primitive::basic::Keep;
-use deserialize::primitive::decoder::PageDecoder;
-use deserialize::utils::Decoder;
+use deserialize::primitive::basic::{Int32, int32};
 use faults::fault::{layer, number};
 use faults::types::{Fault, Layer};
-use holders::cursor::Converted;
 use pages::stream::Stream;
 use read::next::next;
 use read::open::open;
@@ -16,9 +13,6 @@ use read::take::take;
 use sinks::fixed::Fixed;
 use sinks::pushable::{Sink, Validity};
 use std::alloc::{AllocError, Global};
-
-// The column of signed 32-bit numbers.
-type Int32<'a> = PageDecoder<'a, 4, Converted<'a, i32, Keep>>;
 
 // The rows of a chunk, a null where the validity has no bit.
 fn rows_of(
@@ -89,7 +83,7 @@ pub fn print_pages(rt: &HostRuntime, wanted: Wanted, bytes: &[u8]) -> anyhow::Re
     let mut sink = Fixed::new(memory.as_mut_slice());
     let mut validity = MutableBitmap::new(flags.as_mut_slice());
     let mut source = Stream::new(bytes);
-    let mut column: Int32<'_> = PageDecoder::new(wanted.optional, Converted::new(Keep));
+    let mut column = int32(wanted.optional);
     let mut read = match open(wanted.chunk, wanted.limit) {
         Ok(read) => read,
         Err(fault) => return print_fault(rt, fault),

@@ -1,6 +1,5 @@
 ghost use Rattle.std.specs.Prelude.{◌≡◌, [], map, None};
 ghost use Rattle.values.specs.Values.{bytes};
-ghost use Rattle.holders.specs.Judge.{form_of};
 ghost use Rattle.holders.specs.Columns.{column_of};
 ghost use Rattle.holders.specs.Convert.{byte_array_column};
 ghost use Rattle.holders.specs.Cursors.{to_give};
@@ -9,6 +8,7 @@ ghost use Rattle.holders.specs.Holding.{held, unused_as};
 use crate::primitive::decoder::PageDecoder;
 use holders::cursor::{Cursor, OverPage};
 use holders::page_values::PageValues;
+use holders::types::Form;
 
 // The values of a page as the bytes that they are.
 #[derive(Drop)]
@@ -55,12 +55,12 @@ impl<'a> OverPage<'a> for BinaryIter<'a> {
 }
 
 // BYTE_ARRAY.
-pub type ByteArray<'a> = PageDecoder<'a, 0, BinaryIter<'a>>;
+pub type ByteArray<'a> = PageDecoder<'a, BinaryIter<'a>>;
 
 pub fn byte_array<'a>(optional: bool) -> ByteArray<'a>
-    ensures column { column_of (form_of 0) bytes result.holder.optional ≡ byte_array_column optional }
+    ensures column { column_of result.holder.form bytes result.holder.optional ≡ byte_array_column optional }
     ensures unused { unused_as bytes result.holder ≡ [] }
     ensures held { held result.holder ≡ None }
 {
-    PageDecoder::new(optional, BinaryIter::new())
+    PageDecoder::new(Form::Arrays, optional, BinaryIter::new())
 }

@@ -1,6 +1,5 @@
 ghost use Rattle.std.specs.Prelude.{◌≡◌, [], map, None, ◌==◌};
 ghost use Rattle.values.specs.Little.{little};
-ghost use Rattle.holders.specs.Judge.{form_of};
 ghost use Rattle.holders.specs.Columns.{column_of};
 ghost use Rattle.holders.specs.Convert.{truth, boolean as boolean_column};
 ghost use Rattle.holders.specs.Cursors.{to_give};
@@ -9,6 +8,7 @@ ghost use Rattle.holders.specs.Holding.{held, unused_as};
 use crate::primitive::decoder::PageDecoder;
 use holders::cursor::{Cursor, OverPage};
 use holders::page_values::PageValues;
+use holders::types::Form;
 
 // Whether the bytes are all 0.
 fn all_zero(bytes: &[u8]) -> bool
@@ -83,12 +83,12 @@ impl<'a> OverPage<'a> for BooleanValues<'a> {
 }
 
 // BOOLEAN.
-pub type Boolean<'a> = PageDecoder<'a, 1, BooleanValues<'a>>;
+pub type Boolean<'a> = PageDecoder<'a, BooleanValues<'a>>;
 
 pub fn boolean<'a>(optional: bool) -> Boolean<'a>
-    ensures column { column_of (form_of 1) truth result.holder.optional ≡ boolean_column optional }
+    ensures column { column_of result.holder.form truth result.holder.optional ≡ boolean_column optional }
     ensures unused { unused_as truth result.holder ≡ [] }
     ensures held { held result.holder ≡ None }
 {
-    PageDecoder::new(optional, BooleanValues::new())
+    PageDecoder::new(Form::Bits, optional, BooleanValues::new())
 }

@@ -1,6 +1,5 @@
 ghost use Rattle.std.specs.Prelude.{◌≡◌, false, cond, List, [], ◌++◌, length, None};
 ghost use Rattle.values.specs.Little.{signed, unsigned};
-ghost use Rattle.holders.specs.Judge.{form_of};
 ghost use Rattle.holders.specs.Columns.{column_of};
 ghost use Rattle.holders.specs.Convert.{keep_32, unsigned_32, keep_64, unsigned_64, int32_keep, int32_as_wide, int32_as_unsigned, int64_keep, float as float_column, double as double_column};
 ghost use Rattle.holders.specs.Holding.{held, unused_as};
@@ -10,27 +9,29 @@ use crate::utils::Decoder;
 use faults::types::Cause;
 use holders::cursor::{Conversion, Converted, Cursor, OverPage};
 use holders::holder::Holder;
+use holders::types::Form;
 use pages::page::Delivery;
 use sinks::pushable::{Pushable, Sink, Validity};
 use values::Element;
 
-impl<'a, const F: u8, C: OverPage<'a>> PageDecoder<'a, F, C> {
+impl<'a, C: OverPage<'a>> PageDecoder<'a, C> {
     // Neither page nor dictionary.
-    pub fn new(optional: bool, cursor: C) -> Self
+    pub fn new(form: Form, optional: bool, cursor: C) -> Self
         ensures unused { unused_as C.OverPage.value result.holder ≡ [] }
         ensures held { held result.holder ≡ None }
+        ensures form { result.holder.form ≡ form }
         ensures optional { result.holder.optional ≡ optional }
     {
         PageDecoder {
-            holder: Holder::empty(optional),
+            holder: Holder::empty(form, optional),
             cursor,
         }
     }
 }
 
-impl<'a, const F: u8, C: OverPage<'a>, P: Pushable<C::Item>, V: Validity> Decoder<'a, P, V>
-    for PageDecoder<'a, F, C> {
-    ghost column = { λ d. column_of (form_of F) C.OverPage.value d.holder.optional };
+impl<'a, C: OverPage<'a>, P: Pushable<C::Item>, V: Validity> Decoder<'a, P, V>
+    for PageDecoder<'a, C> {
+    ghost column = { λ d. column_of d.holder.form C.OverPage.value d.holder.optional };
 
     ghost unused = { λ d. unused_as C.OverPage.value d.holder };
 
@@ -119,67 +120,67 @@ impl Conversion<u64> for Bits {
 }
 
 // INT32, kept.
-pub type Int32<'a> = PageDecoder<'a, 4, Converted<'a, i32, Keep>>;
+pub type Int32<'a> = PageDecoder<'a, Converted<'a, i32, Keep>>;
 
 pub fn int32<'a>(optional: bool) -> Int32<'a>
-    ensures column { column_of (form_of 4) keep_32 result.holder.optional ≡ int32_keep optional }
+    ensures column { column_of result.holder.form keep_32 result.holder.optional ≡ int32_keep optional }
     ensures unused { unused_as keep_32 result.holder ≡ [] }
     ensures held { held result.holder ≡ None }
 {
-    PageDecoder::new(optional, Converted::new(Keep))
+    PageDecoder::new(Form::Four, optional, Converted::new(Keep))
 }
 
 // INT32, widened to eight bytes.
-pub type Int32Widen<'a> = PageDecoder<'a, 4, Converted<'a, i64, Widen>>;
+pub type Int32Widen<'a> = PageDecoder<'a, Converted<'a, i64, Widen>>;
 
 pub fn int32_widen<'a>(optional: bool) -> Int32Widen<'a>
-    ensures column { column_of (form_of 4) keep_32 result.holder.optional ≡ int32_as_wide optional }
+    ensures column { column_of result.holder.form keep_32 result.holder.optional ≡ int32_as_wide optional }
     ensures unused { unused_as keep_32 result.holder ≡ [] }
     ensures held { held result.holder ≡ None }
 {
-    PageDecoder::new(optional, Converted::new(Widen))
+    PageDecoder::new(Form::Four, optional, Converted::new(Widen))
 }
 
 // INT32, its bytes as an unsigned number.
-pub type Int32Unsigned<'a> = PageDecoder<'a, 4, Converted<'a, u32, Unsigned>>;
+pub type Int32Unsigned<'a> = PageDecoder<'a, Converted<'a, u32, Unsigned>>;
 
 pub fn int32_unsigned<'a>(optional: bool) -> Int32Unsigned<'a>
-    ensures column { column_of (form_of 4) unsigned_32 result.holder.optional ≡ int32_as_unsigned optional }
+    ensures column { column_of result.holder.form unsigned_32 result.holder.optional ≡ int32_as_unsigned optional }
     ensures unused { unused_as unsigned_32 result.holder ≡ [] }
     ensures held { held result.holder ≡ None }
 {
-    PageDecoder::new(optional, Converted::new(Unsigned))
+    PageDecoder::new(Form::Four, optional, Converted::new(Unsigned))
 }
 
 // INT64.
-pub type Int64<'a> = PageDecoder<'a, 8, Converted<'a, i64, Keep>>;
+pub type Int64<'a> = PageDecoder<'a, Converted<'a, i64, Keep>>;
 
 pub fn int64<'a>(optional: bool) -> Int64<'a>
-    ensures column { column_of (form_of 8) keep_64 result.holder.optional ≡ int64_keep optional }
+    ensures column { column_of result.holder.form keep_64 result.holder.optional ≡ int64_keep optional }
     ensures unused { unused_as keep_64 result.holder ≡ [] }
     ensures held { held result.holder ≡ None }
 {
-    PageDecoder::new(optional, Converted::new(Keep))
+    PageDecoder::new(Form::Eight, optional, Converted::new(Keep))
 }
 
 // FLOAT, held as its bits.
-pub type Float<'a> = PageDecoder<'a, 4, Converted<'a, u32, Bits>>;
+pub type Float<'a> = PageDecoder<'a, Converted<'a, u32, Bits>>;
 
 pub fn float<'a>(optional: bool) -> Float<'a>
-    ensures column { column_of (form_of 4) unsigned_32 result.holder.optional ≡ float_column optional }
+    ensures column { column_of result.holder.form unsigned_32 result.holder.optional ≡ float_column optional }
     ensures unused { unused_as unsigned_32 result.holder ≡ [] }
     ensures held { held result.holder ≡ None }
 {
-    PageDecoder::new(optional, Converted::new(Bits))
+    PageDecoder::new(Form::Four, optional, Converted::new(Bits))
 }
 
 // DOUBLE, held as its bits.
-pub type Double<'a> = PageDecoder<'a, 8, Converted<'a, u64, Bits>>;
+pub type Double<'a> = PageDecoder<'a, Converted<'a, u64, Bits>>;
 
 pub fn double<'a>(optional: bool) -> Double<'a>
-    ensures column { column_of (form_of 8) unsigned_64 result.holder.optional ≡ double_column optional }
+    ensures column { column_of result.holder.form unsigned_64 result.holder.optional ≡ double_column optional }
     ensures unused { unused_as unsigned_64 result.holder ≡ [] }
     ensures held { held result.holder ≡ None }
 {
-    PageDecoder::new(optional, Converted::new(Bits))
+    PageDecoder::new(Form::Eight, optional, Converted::new(Bits))
 }

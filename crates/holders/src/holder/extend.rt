@@ -13,7 +13,7 @@ use crate::decode::{extend_from_decoder, extend_required};
 use crate::measure::{count_present, weigh_within};
 use sinks::pushable::{Pushable, Sink, Validity};
 
-impl<'a, const F: u8> Holder<'a, F> {
+impl<'a> Holder<'a> {
     // How many of the first k unused rows are present.
     fn present_among(&self, k: usize) -> usize
         requires { k ≤ self.now.rows }
@@ -53,6 +53,7 @@ impl<'a, const F: u8> Holder<'a, F> {
         requires bits { length (V.Validity.bits validity.old) + k ≤ V.Validity.room validity.old }
         ensures unused { unused_as C.OverPage.value self.new ≡ drop k (unused_as C.OverPage.value self.old) }
         ensures held { held self.new ≡ held self.old }
+        ensures form { self.new.form ≡ self.old.form }
         ensures flag { self.new.optional ≡ self.old.optional }
         ensures values { P.Sink.items sink.new ≡ P.Sink.items sink.old ++ stands (P.Sink.room sink.old).blank (take k (unused_as C.OverPage.value self.old)) }
         ensures bits { V.Validity.bits validity.new ≡ V.Validity.bits validity.old ++ bits_for self.old.optional (take k (unused_as C.OverPage.value self.old)) }
@@ -63,6 +64,7 @@ impl<'a, const F: u8> Holder<'a, F> {
         extend_from_decoder(validity, &mut page, k, sink, cursor);
         let rows = self.rows - k as u32;
         *self = Holder {
+            form: self.form,
             optional: self.optional,
             dict: self.dict,
             rows,
@@ -83,6 +85,7 @@ impl<'a, const F: u8> Holder<'a, F> {
         requires fits { fits (P.Sink.room sink.old) (P.Sink.items sink.old ++ stands (P.Sink.room sink.old).blank (take k (unused_as C.OverPage.value self.old))) ≡ true }
         ensures unused { unused_as C.OverPage.value self.new ≡ drop k (unused_as C.OverPage.value self.old) }
         ensures held { held self.new ≡ held self.old }
+        ensures form { self.new.form ≡ self.old.form }
         ensures flag { self.new.optional ≡ self.old.optional }
         ensures values { P.Sink.items sink.new ≡ P.Sink.items sink.old ++ stands (P.Sink.room sink.old).blank (take k (unused_as C.OverPage.value self.old)) }
         ensures memory { (P.Sink.room sink.new ≡ P.Sink.room sink.old) × (P.Sink.home sink.new ≡ P.Sink.home sink.old) }
@@ -91,6 +94,7 @@ impl<'a, const F: u8> Holder<'a, F> {
         extend_required(k, sink, cursor);
         let rows = self.rows - k as u32;
         *self = Holder {
+            form: self.form,
             optional: self.optional,
             dict: self.dict,
             rows,
@@ -112,6 +116,7 @@ impl<'a, const F: u8> Holder<'a, F> {
         requires bits { bits_due self.old.optional (length (V.Validity.bits validity.old) + k) ≤ V.Validity.room validity.old }
         ensures unused { unused_as C.OverPage.value self.new ≡ drop k (unused_as C.OverPage.value self.old) }
         ensures held { held self.new ≡ held self.old }
+        ensures form { self.new.form ≡ self.old.form }
         ensures flag { self.new.optional ≡ self.old.optional }
         ensures values { P.Sink.items sink.new ≡ P.Sink.items sink.old ++ stands (P.Sink.room sink.old).blank (take k (unused_as C.OverPage.value self.old)) }
         ensures bits { V.Validity.bits validity.new ≡ V.Validity.bits validity.old ++ bits_for self.old.optional (take k (unused_as C.OverPage.value self.old)) }
@@ -136,6 +141,7 @@ impl<'a, const F: u8> Holder<'a, F> {
         ensures answer { result ≡ room_for self.old.optional (P.Sink.room sink.old) (V.Validity.room validity.old) k (unused_as C.OverPage.value self.old) (P.Sink.items sink.old) (V.Validity.bits validity.old) }
         ensures unused { unused_as C.OverPage.value self.new ≡ (if result then drop k (unused_as C.OverPage.value self.old) else unused_as C.OverPage.value self.old) }
         ensures held { held self.new ≡ held self.old }
+        ensures form { self.new.form ≡ self.old.form }
         ensures flag { self.new.optional ≡ self.old.optional }
         ensures values { P.Sink.items sink.new ≡ (if result then P.Sink.items sink.old ++ stands (P.Sink.room sink.old).blank (take k (unused_as C.OverPage.value self.old)) else P.Sink.items sink.old) }
         ensures bits { V.Validity.bits validity.new ≡ (if result then V.Validity.bits validity.old ++ bits_for self.old.optional (take k (unused_as C.OverPage.value self.old)) else V.Validity.bits validity.old) }

@@ -1,13 +1,11 @@
 ghost use Rattle.std.specs.Prelude.{◌≡◌, [], length, is_some};
 ghost use Rattle.std.specs.Option.{option_map};
 ghost use Rattle.pages.specs.Delivered.{first, others};
-ghost use Rattle.holders.specs.Judge.{form_of};
 ghost use Rattle.holders.specs.Cursors.{to_give};
 
 use super::PageValues;
-use crate::checks::form_of;
 use crate::take::take_value;
-use crate::types::Values;
+use crate::types::{Form, Values};
 
 impl<'a> PageValues<'a> {
     // No values.
@@ -15,7 +13,7 @@ impl<'a> PageValues<'a> {
         ensures { to_give result ≡ [] }
     {
         PageValues {
-            form: 4,
+            form: Form::Four,
             n: 0,
             values: Values::Plain { bytes: &[], at: 0 },
         }
@@ -36,7 +34,7 @@ impl<'a> PageValues<'a> {
             return None;
         }
         let mut values = self.values;
-        let value = take_value(form_of(self.form), self.n, &mut values);
+        let value = take_value(self.form, self.n, &mut values);
         *self = PageValues {
             form: self.form,
             n: self.n - 1,

@@ -41,6 +41,7 @@ returns g c =
     record {
       unused = l.rows;
       held = refl;
+      form = refl;
       flag = refl;
       values = e.items ∙ ap (λ t. g.P.Sink.items c.args.sink.now ++ t) (ap (filled r.blank (take k (flat (to_come h.validity)))) c.load.ensures ∙ sym (stands_flat h f k c.requires.rows c.requires.flag r.blank));
       bits = e.bits ∙ ap (λ t. g.V.Validity.bits c.args.validity.now ++ t) (sym (bits_flat h f k c.requires.rows c.requires.flag));

@@ -33,6 +33,7 @@ returns g c =
     record {
       unused = l.rows;
       held = refl;
+      form = refl;
       flag = refl;
       values = e.items ∙ ap (λ t. g.P.Sink.items c.args.sink.now ++ t) (ap (take k) c.load.ensures ∙ sym (stands_all h f k c.requires.rows c.requires.flag r.blank));
       memory = (e.room, e.home);

@@ -21,6 +21,7 @@ returns-then-not-room g c =
       answer = no_room (leb k (length us)) (leb (length vs + k) r.rows) (leb (bits_due h.optional (length bs + k)) n) (leb (weights vs + weights (stands r.blank (take k us))) r.bytes) said;
       unused = refl;
       held = refl;
+      form = refl;
       flag = refl;
       values = refl;
       bits = refl;
@@ -44,6 +45,7 @@ returns-then-not-bytes_fit g c =
       answer = c.if-not-bytes_fit.ensures ∙ bytes_same h f k w r vs c.spare.result (g.P.Sink.light c.args.sink.now) c.spare.ensures ∙ all_room (leb k (length us)) (leb (length vs + k) r.rows) (leb (bits_due h.optional (length bs + k)) n) (leb (weights vs + weights (stands r.blank (take k us))) r.bytes) said;
       unused = refl;
       held = refl;
+      form = refl;
       flag = refl;
       values = refl;
       bits = refl;
@@ -65,7 +67,7 @@ append-requires g c =
     let b = leb-true (bits_due h.optional (c.len-2.result + k)) c.capacity-2.result t.2 in
     let d = leb-true (weights vs + weights (stands r.blank (take k us))) r.bytes (sym (c.if-not-bytes_fit.ensures ∙ bytes_same h f k w r vs c.spare.result (g.P.Sink.light c.args.sink.now) c.spare.ensures)) in
     let e = ap (λ x. bits_due h.optional (x + k)) c.len-2.ensures in
-    λ _. (omega arith, ((refl, tt), (w, (fits_then r vs (stands r.blank (take k us)) k (stands_number h f k w r.blank) (omega (arith, c.len.ensures, c.capacity.ensures)) d, omega (arith, e, c.capacity-2.ensures)))))
+    λ _. ((refl, tt), (w, (fits_then r vs (stands r.blank (take k us)) k (stands_number h f k w r.blank) (omega (arith, c.len.ensures, c.capacity.ensures)) d, omega (arith, e, c.capacity-2.ensures))))
 
 pub returns : goal.returns
 returns g c =
@@ -84,6 +86,7 @@ returns g c =
       answer = c.if-not-bytes_fit.ensures ∙ bytes_same h f k w r vs c.spare.result (g.P.Sink.light c.args.sink.now) c.spare.ensures ∙ all_room (leb k (length us)) (leb (length vs + k) r.rows) (leb (bits_due h.optional (length bs + k)) n) (leb (weights vs + weights (stands r.blank (take k us))) r.bytes) said;
       unused = e.unused;
       held = e.held;
+      form = e.form;
       flag = e.flag;
       values = e.values;
       bits = e.bits;
