@@ -1,7 +1,6 @@
 -- Rows by presence.
 use Rattle.std.proofs.Common.{◌≡◌, ℕ, ◌≤◌, Bool, true, false, cond, leb, List, map, length, Some, Ok, Err, Option, Result, sym, refl, ap, ◌∙◌, arith, leb-true}
 use lib.ListN.{length-replicate}
-use Rattle.std.specs.Option.{option_map}
 use Rattle.hybrid_rle.specs.Runs.{runs, sound}
 use Rattle.hybrid_rle.specs.Rows.{present, flat, in_place, rows_of}
 use Rattle.hybrid_rle.specs.Cursor.{to_come}
@@ -12,11 +11,11 @@ use Rattle.faults.specs.Faults.{then_do}
 use Rattle.faults.specs.declared.types.Cause.{Cause}
 use Rattle.faults.specs.declared.types.Cause.TheVariants.{Validity, Rows}
 use Rattle.holders.specs.Judge.{split, needed, counted, no_fault, few, flagged, encoded, values, spread, page_rows}
-use Rattle.holders.specs.Left.{present_left, values_left}
+use Rattle.holders.specs.Left.{present_left}
 use Rattle.holders.specs.Counts.{tallied}
-use Rattle.holders.specs.Shapes.{sure}
+use Rattle.holders.specs.Shapes.{given, shown}
 use Rattle.holders.specs.declared.types.Form.{Form}
-use Rattle.holders.specs.declared.types.Values.{Values}
+use Rattle.holders.specs.declared.page_values.PageValues.{PageValues}
 use Rattle.holders.proofs.Tally.{needed_true}
 
 -- what the parts of a page are
@@ -59,10 +58,6 @@ optional_parts true n k levels values body old v e s t w =
 pub page_chain : (f : Form) (o : Bool) (d es : Option (List (List ℕ))) (n e : ℕ) (flag : Bool) (bs vb : List ℕ) (ps : List Bool) → Ok tt ≡ few n → Ok tt ≡ flagged o flag → Ok es ≡ encoded f d e → Ok (ps, vb) ≡ split o n bs → page_rows f o d n e flag bs ≡ then_do (values f o es (needed ps) vb) (λ vs. Ok (spread ps vs))
 page_chain f o d es n e flag bs vb ps a b c s = rw (sym a, sym b, sym c, sym s) refl
 
-pub page_done : (f : Form) (n : ℕ) (ps : List Bool) (v : Values) (x : Result (List (List ℕ)) Cause) → Ok (values_left f n v) ≡ sure x → Ok (option_map (spread ps) (values_left f n v)) ≡ sure (then_do x (λ vs. Ok (spread ps vs)))
-page_done f n ps v (Ok vs) e = let i : values_left f n v ≡ Some vs = cc in rw i refl
-page_done f n ps v (Err c) e = absurd (grind arith)
-
-pub page_broken : (ps : List Bool) (c : Cause) (x : Result (List (List ℕ)) Cause) → ◌≡◌ {A = Result (Option (List (List ℕ))) Cause} (Err c) (sure x) → ◌≡◌ {A = Result (Option (List (Option (List ℕ)))) Cause} (Err c) (sure (then_do x (λ vs. Ok (spread ps vs))))
-page_broken ps c (Ok vs) e = absurd (grind arith)
-page_broken ps c (Err b) e = let i : c ≡ b = cc in rw i refl
+pub page_shown : (ps : List Bool) (r : Result PageValues Cause) (x : Result (List (List ℕ)) Cause) → given r ≡ x → shown ps r ≡ then_do x (λ vs. Ok (spread ps vs))
+page_shown ps (Ok p) x e = rw (sym e) refl
+page_shown ps (Err c) x e = rw (sym e) refl

@@ -58,6 +58,10 @@ entries Eight n bs = fixed 8 false n bs
 entries Bits n bs = None
 entries Arrays n bs = arrays_in n bs
 
+-- the entries of a dictionary page, if there are not too many
+abbrev pub dictionary : Form → ℕ → List ℕ → Option (List (List ℕ))
+dictionary f n bs = cond (nat_le n 1048576) (entries f n bs) None
+
 -- whether the dictionary encodings are read
 abbrev pub coded : Form → Bool
 coded Four = true

@@ -1,9 +1,9 @@
-ghost use Rattle.std.specs.Prelude.{◌≡◌, true, length};
+ghost use Rattle.std.specs.Prelude.{◌≡◌, length};
 ghost use Rattle.holders.specs.Judge.{needed};
-ghost use Rattle.holders.specs.Left.{present_left, dict_fine};
+ghost use Rattle.holders.specs.Left.{present_left};
 
 use crate::page_values::PageValues;
-use crate::types::{Dict, Form};
+use crate::types::{Column, Dict};
 use hybrid_rle::validity::OptionalPageValidity;
 
 mod extend;
@@ -12,13 +12,11 @@ mod hold;
 // The page and the dictionary that a read keeps between its calls.
 #[derive(Drop)]
 pub struct Holder<'a> {
-    form: Form,
-    optional: bool,
+    column: Column,
     dict: Option<Dict<'a>>,
     rows: u32,
     validity: OptionalPageValidity<'a>,
     values: PageValues<'a>,
-    ghost dictionary: { dict_fine form dict ≡ true },
-    ghost page: { needed (present_left optional rows validity) ≡ values.n },
-    ghost count: { length (present_left optional rows validity) ≡ rows },
+    ghost page: { needed (present_left column.optional rows validity) ≡ values.n },
+    ghost count: { length (present_left column.optional rows validity) ≡ rows },
 }

@@ -4,11 +4,10 @@ ghost use Rattle.holders.specs.Judge.{judge};
 ghost use Rattle.holders.specs.Holding.{unused, held, answered, rows_after, held_after, page_verdict, dict_verdict};
 
 use super::Holder;
-use crate::checks::{coded, few};
+use crate::checks::{few, plain_fits};
 use crate::page::checked_page;
 use crate::page_values::PageValues;
-use crate::types::{Dict, Form, Values};
-use crate::value_checks::entries_fit;
+use crate::types::{Column, Dict, Form};
 use faults::types::Cause;
 use hybrid_rle::validity::OptionalPageValidity;
 use pages::page::{DataPage, Delivery, DictPage};
@@ -18,28 +17,23 @@ impl<'a> Holder<'a> {
     pub fn empty(form: Form, optional: bool) -> Self
         ensures rows { unused result ≡ [] }
         ensures dict { held result ≡ None }
-        ensures form { result.form ≡ form }
-        ensures flag { result.optional ≡ optional }
+        ensures form { result.column.form ≡ form }
+        ensures flag { result.column.optional ≡ optional }
     {
         Holder {
-            form,
-            optional,
+            column: Column { form, optional },
             dict: None,
             rows: 0,
             validity: OptionalPageValidity::empty(),
-            values: PageValues {
-                form,
-                n: 0,
-                values: Values::Plain { bytes: &[], at: 0 },
-            },
+            values: PageValues::empty(),
         }
     }
 
     // Whether a row may be null.
     pub fn optional(&self) -> bool
-        ensures { result ≡ self.now.optional }
+        ensures { result ≡ self.now.column.optional }
     {
-        self.optional
+        self.column.optional
     }
 
     // The rows not used yet.
@@ -54,17 +48,18 @@ impl<'a> Holder<'a> {
         ensures answer { result ≡ answered (dict_verdict self.old p.entry.entries p.entry.body.now) }
         ensures rows { unused self.new ≡ rows_after (dict_verdict self.old p.entry.entries p.entry.body.now) (unused self.old) }
         ensures dict { held self.new ≡ held_after (dict_verdict self.old p.entry.entries p.entry.body.now) (held self.old) }
-        ensures form { self.new.form ≡ self.old.form }
-        ensures flag { self.new.optional ≡ self.old.optional }
+        ensures column { self.new.column ≡ self.old.column }
     {
-        if !coded(self.form) {
+        let form = self.column.form;
+        if form == Form::Bits {
             return Ok(());
         }
         few(p.entries)?;
-        if !entries_fit(self.form, p.entries as usize, p.body) {
+        if !plain_fits(form, false, p.entries as usize, p.body) {
             return Err(Cause::Dictionary);
         }
         self.dict = Some(Dict {
+            form,
             entries: p.entries,
             body: p.body,
         });
@@ -76,33 +71,26 @@ impl<'a> Holder<'a> {
         ensures answer { result ≡ answered (page_verdict self.old p.entry.rows p.entry.encoding p.entry.optional p.entry.body.now) }
         ensures rows { unused self.new ≡ rows_after (page_verdict self.old p.entry.rows p.entry.encoding p.entry.optional p.entry.body.now) (unused self.old) }
         ensures dict { held self.new ≡ held_after (page_verdict self.old p.entry.rows p.entry.encoding p.entry.optional p.entry.body.now) (held self.old) }
-        ensures form { self.new.form ≡ self.old.form }
-        ensures flag { self.new.optional ≡ self.old.optional }
+        ensures column { self.new.column ≡ self.old.column }
     {
         let mut validity = OptionalPageValidity::empty();
-        let (n, values) = checked_page(self.form, self.optional, self.dict, &mut validity, p)?;
+        let values = checked_page(self.column, self.dict, &mut validity, p)?;
         *self = Holder {
-            form: self.form,
-            optional: self.optional,
+            column: self.column,
             dict: self.dict,
             rows: p.rows,
             validity,
-            values: PageValues {
-                form: self.form,
-                n,
-                values,
-            },
+            values,
         };
         Ok(())
     }
 
     // Checks a delivery whole, and holds it if it is sound; a refusal changes nothing.
     pub fn hold(&mut self, d: Delivery<'a>) -> Result<(), Cause>
-        ensures answer { result ≡ answered (judge self.old.form self.old.optional (held self.old) (meaning d.entry)) }
-        ensures rows { unused self.new ≡ rows_after (judge self.old.form self.old.optional (held self.old) (meaning d.entry)) (unused self.old) }
-        ensures dict { held self.new ≡ held_after (judge self.old.form self.old.optional (held self.old) (meaning d.entry)) (held self.old) }
-        ensures form { self.new.form ≡ self.old.form }
-        ensures flag { self.new.optional ≡ self.old.optional }
+        ensures answer { result ≡ answered (judge self.old.column.form self.old.column.optional (held self.old) (meaning d.entry)) }
+        ensures rows { unused self.new ≡ rows_after (judge self.old.column.form self.old.column.optional (held self.old) (meaning d.entry)) (unused self.old) }
+        ensures dict { held self.new ≡ held_after (judge self.old.column.form self.old.column.optional (held self.old) (meaning d.entry)) (held self.old) }
+        ensures column { self.new.column ≡ self.old.column }
     {
         match d {
             Delivery::Data(p) => self.hold_page(p),

@@ -4,13 +4,13 @@ ghost use Rattle.pages.specs.Delivered.{first, others};
 ghost use Rattle.holders.specs.Cursors.{to_give};
 
 use super::PageValues;
-use crate::take::take_value;
 use crate::types::{Form, Values};
 
 impl<'a> PageValues<'a> {
     // No values.
     pub fn empty() -> Self
-        ensures { to_give result ≡ [] }
+        ensures none { to_give result ≡ [] }
+        ensures number { result.n ≡ 0 }
     {
         PageValues {
             form: Form::Four,
@@ -33,8 +33,7 @@ impl<'a> PageValues<'a> {
         if self.n == 0 {
             return None;
         }
-        let mut values = self.values;
-        let value = take_value(self.form, self.n, &mut values);
+        let (value, values) = self.front();
         *self = PageValues {
             form: self.form,
             n: self.n - 1,
