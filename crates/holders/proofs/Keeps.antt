@@ -1,7 +1,7 @@
 -- What a holder keeps, in the terms of the loops over its rows.
 use Rattle.std.proofs.Common.{◌≡◌, ℕ, zero, suc, ◌+◌, ◌-◌, ◌≤◌, Bool, true, false, ◌&&◌, leb, List, [], ◌∷◌, ◌++◌, map, length, take, drop, replicate, sym, refl, ap, ◌∙◌, subst, arith, length-append, length-drop}
 use lib.ListN.{length-map}
-use Rattle.std.proofs.lemmas.List.{take-map, length-take-le}
+use Rattle.std.proofs.lemmas.List.{take-map, take-replicate, length-take-le}
 use Rattle.std.proofs.lemmas.Bool.{le-leb, leb-true}
 use Rattle.hybrid_rle.specs.declared.validity.OptionalPageValidity.{OptionalPageValidity}
 use Rattle.hybrid_rle.specs.Cursor.{to_come}
@@ -17,6 +17,7 @@ use Rattle.holders.specs.Cursors.{to_give}
 use Rattle.holders.specs.declared.holder.Holder.{Holder}
 use Rattle.holders.specs.declared.page_values.PageValues.{PageValues}
 use Rattle.holders.proofs.Spreads.{first_stands, rows_left, needs_left, enough_first}
+use Rattle.holders.proofs.Validities.{needed_values}
 use Rattle.holders.proofs.Measures.{filled_weight, leb_same}
 use Rattle.model.proofs.Rows.{length_stands}
 use Rattle.sinks.specs.Fits.{fits_from}
@@ -29,15 +30,6 @@ values_number v = length_given v.n _ (has_values v.form v.n v.values) v.there
 -- each present row has its value
 pub all_needed : (h : Holder) → needed (present_left h.column.optional h.rows h.validity) ≡ length (to_give h.values)
 all_needed h = h.page ∙ values_number h.values
-
-first_all : (k n : ℕ) → k ≤ n → k ≡ needed (take k (replicate n true))
-first_all zero n h = refl
-first_all (suc k) zero h = absurd (omega arith)
-first_all (suc k) (suc n) h = ap suc (first_all k n (omega arith))
-
--- all rows of a required page are present
-pub required_among : (o : Bool) (n k : ℕ) (v : OptionalPageValidity) → o ≡ false → k ≤ n → k ≡ needed (take k (present_left o n v))
-required_among o n k v e h = subst (λ t. k ≡ needed (take k (present_left t n v))) (sym e) (first_all k n h)
 
 module _ (f : List ℕ → Value) (light : (bs : List ℕ) → weight (f bs) ≡ 0) where
   weightless : (xs : List (List ℕ)) → weights (map f xs) ≡ 0
@@ -91,6 +83,12 @@ flat_is o n v e = ap (λ t. present_left t n v) e
 
 pub all_are : (o : Bool) (n : ℕ) (v : OptionalPageValidity) → o ≡ false → present_left o n v ≡ replicate n true
 all_are o n v e = ap (λ t. present_left t n v) e
+
+pub first_all : (o : Bool) (n k : ℕ) (v : OptionalPageValidity) → o ≡ false → k ≤ n → take k (present_left o n v) ≡ replicate k true
+first_all o n k v e h = ap (take k) (all_are o n v e) ∙ take-replicate k n true h
+
+pub required_among : (o : Bool) (n k : ℕ) (v : OptionalPageValidity) → o ≡ false → k ≤ n → k ≡ needed (take k (present_left o n v))
+required_among o n k v e h = sym (ap needed (first_all o n k v e h) ∙ needed_values k)
 
 -- the first three tests of room, and all four
 pub no_room : (a b c d : Bool) → false ≡ (a && b && c) → false ≡ (a && b && c && d)

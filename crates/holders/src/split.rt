@@ -5,7 +5,6 @@ ghost use Rattle.holders.specs.Shapes.{seen, count_in, if_ok};
 
 use crate::arrays::counted;
 use crate::present::present_rows;
-use crate::value_checks::caused;
 use faults::types::Cause;
 use hybrid_rle::validity::OptionalPageValidity;
 
@@ -23,10 +22,8 @@ pub(crate) fn split<'a>(
     if !optional {
         return Ok((rows, body));
     }
-    let Some((levels, values)) = counted(body) else {
-        return Err(Cause::Validity);
-    };
-    let n = caused(present_rows(levels, rows), Cause::Validity)?;
-    caused(v.hold(levels, rows), Cause::Validity)?;
+    let (levels, values) = counted(body).ok_or(Cause::Validity)?;
+    let n = present_rows(levels, rows).map_err(|_| Cause::Validity)?;
+    v.hold(levels, rows).map_err(|_| Cause::Validity)?;
     Ok((n, values))
 }

@@ -9,18 +9,7 @@ use crate::indices::indices_below;
 use crate::page_values::PageValues;
 use crate::types::{Column, Dict, Indices, Numbers, Values};
 use faults::types::Cause;
-use hybrid_rle::header::Broken;
 use hybrid_rle::runs::check;
-
-// What was found broken, as the cause given.
-pub(crate) fn caused<T>(r: Result<T, Broken>, cause: Cause) -> Result<T, Cause>
-    ensures { result ≡ judge.no_fault cause r }
-{
-    match r {
-        Ok(x) => Ok(x),
-        Err(_) => Err(cause),
-    }
-}
 
 fn plain<'a>(column: Column, n: usize, bytes: &'a [u8]) -> Result<PageValues<'a>, Cause>
     requires { n ≤ 1048576 }

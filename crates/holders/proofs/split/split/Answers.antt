@@ -9,5 +9,5 @@ returns-then-not-optional c =
 
 pub returns : goal.returns
 returns c =
-    let p = optional_parts c.args.optional c.args.rows c.in_ok-n.n c.in-Some.levels.now c.in-Some.values.now c.args.body.now _ c.hold.new.self c.if-not-optional.false c.in-Some.ensures (search rules) c.hold.ensures.kept in
+    let p = optional_parts c.args.optional c.args.rows c.in_ok-n.n c.in_ok-levels.levels.now c.in_ok-levels.values.now c.args.body.now _ c.hold.new.self c.if-not-optional.false (search rules) (search rules) c.hold.ensures.kept in
     record { parts = p.parts; count = p.count; rows = p.rows }

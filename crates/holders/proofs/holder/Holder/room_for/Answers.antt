@@ -1,9 +1,8 @@
-use Rattle.std.proofs.Common.{◌+◌, leb, length, take, refl, ◌∙◌}
-use Rattle.std.proofs.lemmas.Bool.{leb-true}
+use Rattle.std.proofs.Common.{◌+◌, leb, length, take, ◌∙◌}
 use Rattle.values.specs.Values.{weights, stands}
 use Rattle.model.specs.Model.{bits_due}
 use Rattle.holders.specs.Holding.{unused_as}
-use Rattle.holders.proofs.Keeps.{no_room, all_room, each_room, unused_number, bytes_same, same_tests}
+use Rattle.holders.proofs.Keeps.{no_room, all_room, unused_number, bytes_same, same_tests}
 use Rattle.holders.proofs.holder.Holder.room_for.Goals as goal
 
 pub returns-then-not-room : goal.returns-then-not-room
@@ -17,11 +16,6 @@ returns-then-not-room g c =
     let us = unused_as g.C.OverPage.value h in
     let said = c.if-not-room.ensures ∙ same_tests h.column.optional r n k h.rows c.len.result c.capacity.result c.len-2.result c.capacity-2.result us vs bs (unused_number h g.C.OverPage.value) c.len.ensures c.capacity.ensures c.len-2.ensures c.capacity-2.ensures in
     no_room (leb k (length us)) (leb (length vs + k) r.rows) (leb (bits_due h.column.optional (length bs + k)) n) (leb (weights vs + weights (stands r.blank (take k us))) r.bytes) said
-
-pub bytes_fit-requires : goal.bytes_fit-requires
-bytes_fit-requires g c =
-    let h = c.args.self.now in
-    λ _. ((refl, tt), leb-true _ _ (each_room (leb c.args.k h.rows) (leb (c.len.result + c.args.k) c.capacity.result) (leb (bits_due h.column.optional (c.len-2.result + c.args.k)) c.capacity-2.result) c.if-not-room.ensures).0)
 
 pub returns : goal.returns
 returns g c =
