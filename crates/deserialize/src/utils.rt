@@ -1,6 +1,7 @@
 ghost use Rattle.std.specs.Prelude.{◌≡◌, false, List, [], ◌++◌, length, take, drop, is_ok, if◌then◌else◌, None, Option as Maybe};
 ghost use Rattle.values.specs.Values.{Row, stands};
 ghost use Rattle.pages.specs.Meaning.{meaning};
+ghost use Rattle.holders.specs.Memory.{SameMemory};
 ghost use Rattle.model.specs.Model.{Column, Dict, verdict, held_after, bits_for};
 ghost use Rattle.model.specs.Rooms.{answered, rows_after, room_for};
 
@@ -39,6 +40,6 @@ pub trait Decoder<'a, P: Sink, V: Validity> {
         ensures held { held self.new ≡ held self.old }
         ensures values { P.Sink.items sink.new ≡ (if is_ok result then P.Sink.items sink.old ++ stands (P.Sink.room sink.old).blank (take k (unused self.old)) else P.Sink.items sink.old) }
         ensures bits { V.Validity.bits validity.new ≡ (if is_ok result then V.Validity.bits validity.old ++ bits_for (column self.old).optional (take k (unused self.old)) else V.Validity.bits validity.old) }
-        ensures memory { (P.Sink.room sink.new ≡ P.Sink.room sink.old) × (P.Sink.home sink.new ≡ P.Sink.home sink.old) × (V.Validity.room validity.new ≡ V.Validity.room validity.old) × (V.Validity.home validity.new ≡ V.Validity.home validity.old) }
+        ensures memory { SameMemory P.Sink.room P.Sink.home sink.old sink.new × SameMemory V.Validity.room V.Validity.home validity.old validity.new }
         ensures kept { is_ok result ≡ false → (sink.new ≡ sink.old) × (validity.new ≡ validity.old) };
 }

@@ -25,10 +25,6 @@ abbrev pub given : Result PageValues Cause → Result (List (List ℕ)) Cause
 given (Ok p) = Ok (to_give p)
 given (Err e) = Err e
 
-abbrev pub done : {A : Type 0} → Result A Cause → Result (Unit {0}) Cause
-done (Ok x) = Ok tt
-done (Err e) = Err e
-
 -- presence, and the bytes of the values
 abbrev pub seen : List Bool → Result (ℕ × Bor (List ℕ)) Cause → Result (List Bool × List ℕ) Cause
 seen ps (Ok p) = Ok (ps, p.1.now)

@@ -3,6 +3,7 @@ ghost use Rattle.values.specs.Values.{fits, stands, weights};
 ghost use Rattle.model.specs.Model.{bits_for, bits_due};
 ghost use Rattle.model.specs.Rooms.{room_for};
 ghost use Rattle.holders.specs.Judge.{needed};
+ghost use Rattle.holders.specs.Memory.{SameMemory};
 ghost use Rattle.holders.specs.Left.{present_left};
 ghost use Rattle.holders.specs.Cursors.{to_give};
 ghost use Rattle.holders.specs.Filled.{Able, filled};
@@ -81,7 +82,7 @@ impl<'a> Holder<'a> {
         ensures column { self.new.column ≡ self.old.column }
         ensures values { P.Sink.items sink.new ≡ P.Sink.items sink.old ++ stands (P.Sink.room sink.old).blank (take k (unused_as C.OverPage.value self.old)) }
         ensures bits { V.Validity.bits validity.new ≡ V.Validity.bits validity.old ++ bits_for self.old.column.optional (take k (unused_as C.OverPage.value self.old)) }
-        ensures memory { (P.Sink.room sink.new ≡ P.Sink.room sink.old) × (P.Sink.home sink.new ≡ P.Sink.home sink.old) × (V.Validity.room validity.new ≡ V.Validity.room validity.old) × (V.Validity.home validity.new ≡ V.Validity.home validity.old) }
+        ensures memory { SameMemory P.Sink.room P.Sink.home sink.old sink.new × SameMemory V.Validity.room V.Validity.home validity.old validity.new }
     {
         let mut page = self.validity;
         cursor.load(self.values);
@@ -118,7 +119,7 @@ impl<'a> Holder<'a> {
         ensures column { self.new.column ≡ self.old.column }
         ensures values { P.Sink.items sink.new ≡ (if is_ok result then P.Sink.items sink.old ++ stands (P.Sink.room sink.old).blank (take k (unused_as C.OverPage.value self.old)) else P.Sink.items sink.old) }
         ensures bits { V.Validity.bits validity.new ≡ (if is_ok result then V.Validity.bits validity.old ++ bits_for self.old.column.optional (take k (unused_as C.OverPage.value self.old)) else V.Validity.bits validity.old) }
-        ensures memory { (P.Sink.room sink.new ≡ P.Sink.room sink.old) × (P.Sink.home sink.new ≡ P.Sink.home sink.old) × (V.Validity.room validity.new ≡ V.Validity.room validity.old) × (V.Validity.home validity.new ≡ V.Validity.home validity.old) }
+        ensures memory { SameMemory P.Sink.room P.Sink.home sink.old sink.new × SameMemory V.Validity.room V.Validity.home validity.old validity.new }
         ensures kept { is_ok result ≡ false → (self.new ≡ self.old) × (sink.new ≡ sink.old) × (validity.new ≡ validity.old) }
     {
         if !self.room_for(cursor, k, sink, validity) {
@@ -148,7 +149,7 @@ fn extend_rows<'p, C: Cursor, P: Pushable<C::Item>, V: Validity>(
     ensures left { C.Cursor.left cursor.new ≡ drop (needed (take k (present_left optional rows page.old))) (C.Cursor.left cursor.old) }
     ensures items { P.Sink.items sink.new ≡ P.Sink.items sink.old ++ filled (P.Sink.room sink.old).blank (take k (present_left optional rows page.old)) (C.Cursor.left cursor.old) }
     ensures bits { V.Validity.bits validity.new ≡ V.Validity.bits validity.old ++ (if optional then take k (present_left optional rows page.old) else []) }
-    ensures memory { (P.Sink.room sink.new ≡ P.Sink.room sink.old) × (P.Sink.home sink.new ≡ P.Sink.home sink.old) × (V.Validity.room validity.new ≡ V.Validity.room validity.old) × (V.Validity.home validity.new ≡ V.Validity.home validity.old) }
+    ensures memory { SameMemory P.Sink.room P.Sink.home sink.old sink.new × SameMemory V.Validity.room V.Validity.home validity.old validity.new }
 {
     if optional {
         extend_from_decoder(validity, page, k, sink, cursor);
