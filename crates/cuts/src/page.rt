@@ -1,8 +1,5 @@
 use bitmap::mutable::MutableBitmap;
-use deserialize::primitive::basic::Keep;
-use deserialize::primitive::decoder::PageDecoder;
-use deserialize::utils::Decoder;
-use holders::cursor::Converted;
+use deserialize::primitive::basic::int32;
 use pages::stream::Stream;
 use read::next::next;
 use read::open::open;
@@ -87,10 +84,7 @@ fn read_all(
     let mut sink = Fixed::new(memory.as_mut_slice());
     let mut validity = MutableBitmap::new(flags.as_mut_slice());
     let mut source = Stream::new(bytes);
-    let mut column: PageDecoder<'_, 4, Converted<'_, i32, Keep>> = PageDecoder::new(
-        optional,
-        Converted::new(Keep),
-    );
+    let mut column = int32(optional);
     let Ok(mut read) = open(chunk, limit) else {
         return Ok(seen);
     };

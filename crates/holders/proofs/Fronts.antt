@@ -1,13 +1,13 @@
 -- Values, one after the other.
-use Rattle.std.proofs.Common.{◌≡◌, ℕ, zero, suc, ◌+◌, ◌-◌, ◌*◌, ◌^◌, ◌<◌, ◌≤◌, min, Bool, true, false, cond, eqb, leb, List, [], ◌∷◌, map, length, take, drop, is_some, Some, None, Option, sym, refl, ap, ◌∙◌, subst, suc-mul, arith, length-drop, eq-eqb, eqb-true, le-leb, leb-true}
+use Rattle.std.proofs.Common.{◌≡◌, ℕ, zero, suc, ◌+◌, ◌-◌, ◌*◌, ◌^◌, ◌<◌, ◌≤◌, min, Bool, true, false, cond, eqb, leb, List, [], ◌∷◌, map, length, take, drop, is_some, Some, None, Option, sym, refl, ap, ◌∙◌, suc-mul, arith, length-drop, eq-eqb, eqb-true, le-leb, leb-true}
 use borrow.Author.Tests.{true-ltb}
 use Rattle.std.specs.List.{slice_get}
-use Rattle.holders.specs.Judge.{put, some_then, parts, counted, arrays_in, chosen, coded}
+use Rattle.holders.specs.Judge.{put, some_then, parts, counted, arrays_in, chosen}
 use Rattle.holders.specs.Left.{at_least, plain_left, or_none}
 use Rattle.holders.specs.Entries.{nth_in, raw_bit}
 use Rattle.hybrid_rle.specs.Runs.{field, fields}
 use Rattle.holders.specs.declared.types.Form.{Form}
-use Rattle.holders.specs.declared.types.Form.TheVariants.{Four, Eight, Bits, Arrays}
+use Rattle.holders.specs.declared.types.Form.TheVariants.{Bits, Arrays}
 use Rattle.holders.proofs.Lengths.{Has}
 use Rattle.holders.proofs.Codes.{nth_some}
 
@@ -52,10 +52,6 @@ some_index (Some es) (Some is) n h l = let t = eqb-true _ _ (test_of (eqb (lengt
 some_index (Some es) None n h l = absurd (grind arith)
 some_index None io n h l = absurd (grind arith)
 
-pub fine_entries : (eo : Option (List (List ℕ))) (io : Option (List ℕ)) (n : ℕ) → is_some (by_indices eo io n) ≡ true → is_some eo ≡ true
-fine_entries (Some es) io n h = refl
-fine_entries None io n h = absurd (grind arith)
-
 chosen_first : (o : Option (List ℕ)) (c : Option (List (List ℕ))) → is_some (some_then o (λ x. put x c)) ≡ true → is_some o ≡ true
 chosen_first (Some x) c h = refl
 chosen_first None c h = absurd (grind arith)
@@ -79,22 +75,9 @@ coded_front (Some es) (Some is) ie n i v e h l s =
 coded_front (Some es) None ie n i v e h l s = let a : is_some (by_indices (Some es) None n) ≡ true = ap (λ x. is_some (by_indices (Some es) x n)) e ∙ h in absurd (grind arith)
 coded_front None ix ie n i v e h l s = absurd (grind arith)
 
--- the place within bytes matters only to bits
-pub no_place : (f : Form) (n : ℕ) (bs : List ℕ) (at : ℕ) → coded f ≡ true → plain_left f n bs at ≡ plain_left f n bs 0
-no_place Four n bs at h = refl
-no_place Eight n bs at h = refl
-no_place Bits n bs at h = absurd (grind arith)
-no_place Arrays n bs at h = refl
-
-module _ (f : Form) (n : ℕ) (bs v r : List ℕ) (h : is_some (plain_left f n bs 0) ≡ true) (l : 0 < n) where
-  pub front_four : f ≡ Four → v ≡ take 4 bs → r ≡ drop 4 bs → put v (plain_left f (n - 1) r 0) ≡ plain_left f n bs 0
-  front_four e a b = let s = subst (λ g. is_some (plain_left g n bs 0) ≡ true) e h in rw (e, a, b) (fixed_front 4 n bs s l)
-
-  pub front_eight : f ≡ Eight → v ≡ take 8 bs → r ≡ drop 8 bs → put v (plain_left f (n - 1) r 0) ≡ plain_left f n bs 0
-  front_eight e a b = let s = subst (λ g. is_some (plain_left g n bs 0) ≡ true) e h in rw (e, a, b) (fixed_front 8 n bs s l)
-
-  pub front_array : f ≡ Arrays → Some (v, r) ≡ counted bs → put v (plain_left f (n - 1) r 0) ≡ plain_left f n bs 0
-  front_array e a = rw e (array_front n bs v r l a)
+-- a value after its length, as the first of a page
+pub array_first : (f : Form) (n : ℕ) (bs v r : List ℕ) → 0 < n → f ≡ Arrays → Some (v, r) ≡ counted bs → put v (plain_left f (n - 1) r 0) ≡ plain_left f n bs 0
+array_first f n bs v r l e a = rw e (array_front n bs v r l a)
 
 -- a bit
 raw_is : (v : ℕ) → v < 2 → raw_bit (eqb v 1) ≡ v ∷ []
@@ -102,11 +85,12 @@ raw_is zero h = refl
 raw_is (suc zero) h = refl
 raw_is (suc (suc v)) h = absurd (omega arith)
 
-pub bit_front : (n at len v : ℕ) (bs : List ℕ) → 0 < n → v ≡ field 1 bs at → is_some (cond (leb (at + n) (min (8 * len) (2 ^ 26))) (Some (map (λ b. b ∷ []) (fields 1 n bs at))) None) ≡ true → put (raw_bit (eqb v 1)) (cond (leb (at + 1 + (n - 1)) (min (8 * len) (2 ^ 26))) (Some (map (λ b. b ∷ []) (fields 1 (n - 1) bs (at + 1)))) None) ≡ cond (leb (at + n) (min (8 * len) (2 ^ 26))) (Some (map (λ b. b ∷ []) (fields 1 n bs at))) None
-bit_front zero at len v bs l e h = absurd (omega arith)
-bit_front (suc n) at len v bs l e h =
-    let t = fit_of (leb (at + suc n) (min (8 * len) (2 ^ 26))) (map (λ b. b ∷ []) (fields 1 (suc n) bs at)) h in
+pub bit_front : (f : Form) (n at v : ℕ) (bs raw : List ℕ) → f ≡ Bits → raw ≡ raw_bit (eqb v 1) → 0 < n → v ≡ field 1 bs at → is_some (plain_left f n bs at) ≡ true → put raw (plain_left f (n - 1) bs (at + 1)) ≡ plain_left f n bs at
+bit_front f zero at v bs raw b r l e h = absurd (omega arith)
+bit_front f (suc n) at v bs raw b r l e h =
+    let k : is_some (plain_left Bits (suc n) bs at) ≡ true = ap (λ g. is_some (plain_left g (suc n) bs at)) (sym b) ∙ h in
+    let t = fit_of (leb (at + suc n) (min (8 * length bs) (2 ^ 26))) (map (λ b. b ∷ []) (fields 1 (suc n) bs at)) k in
     let m : suc n - 1 ≡ n = omega arith in
     let z : at + 1 + n ≡ at + suc n = omega arith in
     let s : v < 2 = omega arith in
-    rw (m, z, t, raw_is v s, e) refl
+    rw (b, r, m, z, t, raw_is v s, e) refl

@@ -1,23 +1,23 @@
 -- What a holder keeps, in the terms of the loops over its rows.
 use Rattle.std.proofs.Common.{◌≡◌, ℕ, zero, suc, ◌+◌, ◌-◌, ◌≤◌, Bool, true, false, ◌&&◌, leb, List, [], ◌∷◌, ◌++◌, map, length, take, drop, replicate, sym, refl, ap, ◌∙◌, subst, arith, length-append, length-drop}
 use lib.ListN.{length-map}
-use Rattle.std.proofs.lemmas.List.{take-map, take-replicate, drop-replicate, length-take-le}
-use Rattle.std.proofs.lemmas.Bool.{le-leb}
+use Rattle.std.proofs.lemmas.List.{take-map, take-replicate, length-take-le}
+use Rattle.std.proofs.lemmas.Bool.{le-leb, leb-true}
 use Rattle.hybrid_rle.specs.declared.validity.OptionalPageValidity.{OptionalPageValidity}
 use Rattle.hybrid_rle.specs.Cursor.{to_come}
 use Rattle.hybrid_rle.specs.Rows.{flat}
 use Rattle.values.specs.Values.{Value, Row, Room, fits, weight, weights, stands}
-use Rattle.model.specs.Model.{bits_for, bits_due}
-use Rattle.holders.specs.Judge.{needed, form_of, spread}
+use Rattle.model.specs.Model.{bits_due}
+use Rattle.model.specs.Rooms.{room_for}
+use Rattle.holders.specs.Judge.{needed, spread}
 use Rattle.holders.specs.Columns.{row_of}
-use Rattle.holders.specs.Filled.{filled}
 use Rattle.holders.specs.Holding.{unused_as}
 use Rattle.holders.specs.Left.{present_left}
 use Rattle.holders.specs.Cursors.{to_give}
 use Rattle.holders.specs.declared.holder.Holder.{Holder}
 use Rattle.holders.specs.declared.page_values.PageValues.{PageValues}
-use Rattle.holders.proofs.Spreads.{needed_all, first_stands, first_validity, rows_left, needs_left, enough_first}
-use Rattle.holders.proofs.Validities.{filled_values}
+use Rattle.holders.proofs.Spreads.{first_stands, rows_left, needs_left, enough_first}
+use Rattle.holders.proofs.Validities.{needed_values}
 use Rattle.holders.proofs.Measures.{filled_weight, leb_same}
 use Rattle.model.proofs.Rows.{length_stands}
 use Rattle.sinks.specs.Fits.{fits_from}
@@ -25,20 +25,11 @@ use Rattle.sinks.proofs.Rows.{weights_append}
 use Rattle.holders.proofs.Lengths.{has_values, length_given, length_spread}
 
 pub values_number : (v : PageValues) → v.n ≡ length (to_give v)
-values_number v = length_given v.n _ (has_values (form_of v.form) v.n v.values) v.there
+values_number v = length_given v.n _ (has_values v.form v.n v.values) v.there
 
 -- each present row has its value
-pub all_needed : {F : ℕ} (h : Holder F) → needed (present_left h.optional h.rows h.validity) ≡ length (to_give h.values)
+pub all_needed : (h : Holder) → needed (present_left h.column.optional h.rows h.validity) ≡ length (to_give h.values)
 all_needed h = h.page ∙ values_number h.values
-
-first_all : (k n : ℕ) → k ≤ n → k ≡ needed (take k (replicate n true))
-first_all zero n h = refl
-first_all (suc k) zero h = absurd (omega arith)
-first_all (suc k) (suc n) h = ap suc (first_all k n (omega arith))
-
--- all rows of a required page are present
-pub required_among : (o : Bool) (n k : ℕ) (v : OptionalPageValidity) → o ≡ false → k ≤ n → k ≡ needed (take k (present_left o n v))
-required_among o n k v e h = subst (λ t. k ≡ needed (take k (present_left t n v))) (sym e) (first_all k n h)
 
 module _ (f : List ℕ → Value) (light : (bs : List ℕ) → weight (f bs) ≡ 0) where
   weightless : (xs : List (List ℕ)) → weights (map f xs) ≡ 0
@@ -50,82 +41,54 @@ module _ (f : List ℕ → Value) (light : (bs : List ℕ) → weight (f bs) ≡
   light_fit m spare xs = sym (le-leb _ spare (omega (arith, ap weights (take-map f m xs), weightless (take m xs))))
 
 -- the holder's rows are counted
-pub unused_number : {F : ℕ} (h : Holder F) (f : List ℕ → Value) → length (unused_as f h) ≡ h.rows
+pub unused_number : (h : Holder) (f : List ℕ → Value) → length (unused_as f h) ≡ h.rows
 unused_number h f =
-    let ps = present_left h.optional h.rows h.validity in
+    let ps = present_left h.column.optional h.rows h.validity in
     length-map (spread ps (to_give h.values)) (row_of f) ∙ length_spread ps (to_give h.values) (all_needed h) ∙ h.count
 
--- what the loops leave in a holder
-pub record LeftIn {F : ℕ} (h : Holder F) (f : List ℕ → Value) (k : ℕ) (v : OptionalPageValidity) (w : PageValues) : Type 0 where
-  pub page : needed (present_left h.optional (h.rows - k) v) ≡ w.n
-  pub count : length (present_left h.optional (h.rows - k) v) ≡ h.rows - k
-  pub rows : map (row_of f) (spread (present_left h.optional (h.rows - k) v) (to_give w)) ≡ drop k (unused_as f h)
+pub enough : (h : Holder) → needed (present_left h.column.optional h.rows h.validity) ≤ length (to_give h.values)
+enough h = let a = all_needed h in omega arith
 
-module _ {F : ℕ} (h : Holder F) (f : List ℕ → Value) (k : ℕ) (within : k ≤ h.rows) where
+-- what the loops leave in a holder: n rows, by presence in v, with the values w
+pub record LeftIn (h : Holder) (f : List ℕ → Value) (k n : ℕ) (v : OptionalPageValidity) (w : PageValues) : Type 0 where
+  pub page : needed (present_left h.column.optional n v) ≡ w.n
+  pub count : length (present_left h.column.optional n v) ≡ n
+  pub rows : map (row_of f) (spread (present_left h.column.optional n v) (to_give w)) ≡ drop k (unused_as f h)
+
+module _ (h : Holder) (f : List ℕ → Value) (k : ℕ) where
   abbrev ps : List Bool
-  ps = present_left h.optional h.rows h.validity
+  ps = present_left h.column.optional h.rows h.validity
 
   abbrev raws : List (List ℕ)
   raws = to_give h.values
-
-  enough : needed ps ≤ length raws
-  enough = let a = all_needed h in omega arith
-
-  pub stands_number : (b : Value) → length (stands b (take k (unused_as f h))) ≡ k
-  stands_number b = length_stands b (take k (unused_as f h)) ∙ length-take-le k (unused_as f h) (omega (arith, unused_number h f))
 
   -- the bytes of the first k rows fit where the bytes of their values do
   pub bytes_same : (r : Room) (vs : List Value) (spare : ℕ) → weight r.blank ≡ 0 → weights vs + spare ≡ r.bytes → leb (weights (take (needed (take k ps)) (map f raws))) spare ≡ leb (weights vs + weights (stands r.blank (take k (unused_as f h)))) r.bytes
   bytes_same r vs spare l e =
       sym (leb_same (weights vs) spare r.bytes r.bytes e refl (weights (take (needed (take k ps)) (map f raws))))
-      ∙ ap (λ n. leb (weights vs + n) r.bytes) (sym (filled_weight r.blank (take k ps) (map f raws) l (enough_first f k ps raws enough)) ∙ ap weights (sym (first_stands f k ps raws enough r.blank)))
+      ∙ ap (λ n. leb (weights vs + n) r.bytes) (sym (filled_weight r.blank (take k ps) (map f raws) l (enough_first f k ps raws (enough h))) ∙ ap weights (sym (first_stands f k ps raws (enough h) r.blank)))
 
-  kept_rows : (v : OptionalPageValidity) (w : PageValues) → present_left h.optional (h.rows - k) v ≡ drop k ps → map f (to_give w) ≡ drop (needed (take k ps)) (map f raws) → LeftIn h f k v w
-  kept_rows v w d e = record {
-    page = needs_left f k ps raws enough w.n (present_left h.optional (h.rows - k) v) (to_give w) d e (all_needed h) (values_number w);
-    count = ap length d ∙ length-drop k ps ∙ ap (λ n. n - k) h.count;
-    rows = rows_left f k ps raws enough (present_left h.optional (h.rows - k) v) (to_give w) d e;
-  }
+  pub kept_rows : (n : ℕ) (v : OptionalPageValidity) (w : PageValues) → n ≡ h.rows - k → present_left h.column.optional (h.rows - k) v ≡ drop k ps → map f (to_give w) ≡ drop (needed (take k ps)) (map f raws) → LeftIn h f k n v w
+  kept_rows n v w s i e =
+      let d = ap (λ m. present_left h.column.optional m v) s ∙ i in
+      record {
+        page = needs_left f k ps raws (enough h) w.n (present_left h.column.optional n v) (to_give w) d e (all_needed h) (values_number w);
+        count = ap length d ∙ length-drop k ps ∙ ap (λ m. m - k) h.count ∙ sym s;
+        rows = rows_left f k ps raws (enough h) (present_left h.column.optional n v) (to_give w) d e;
+      }
 
-  module _ (o : h.optional ≡ true) where
-    flat_is : ps ≡ flat (to_come h.validity)
-    flat_is = ap (λ t. present_left t h.rows h.validity) o
+-- a page's rows, where rows may be null and where none is
+pub flat_is : (o : Bool) (n : ℕ) (v : OptionalPageValidity) → o ≡ true → present_left o n v ≡ flat (to_come v)
+flat_is o n v e = ap (λ t. present_left t n v) e
 
-    pub rows_there : k ≤ length (flat (to_come h.validity))
-    rows_there = omega (arith, ap length flat_is, h.count)
+pub all_are : (o : Bool) (n : ℕ) (v : OptionalPageValidity) → o ≡ false → present_left o n v ≡ replicate n true
+all_are o n v e = ap (λ t. present_left t n v) e
 
-    pub values_there : needed (take k (flat (to_come h.validity))) ≤ length (map f raws)
-    values_there = omega (arith, ap (λ t. needed (take k t)) flat_is, enough_first f k ps raws enough)
+pub first_all : (o : Bool) (n k : ℕ) (v : OptionalPageValidity) → o ≡ false → k ≤ n → take k (present_left o n v) ≡ replicate k true
+first_all o n k v e h = ap (take k) (all_are o n v e) ∙ take-replicate k n true h
 
-    pub stands_flat : (b : Value) → stands b (take k (unused_as f h)) ≡ filled b (take k (flat (to_come h.validity))) (map f raws)
-    stands_flat b = first_stands f k ps raws enough b ∙ ap (λ t. filled b (take k t) (map f raws)) flat_is
-
-    pub bits_flat : bits_for h.optional (take k (unused_as f h)) ≡ take k (flat (to_come h.validity))
-    bits_flat = ap (λ t. bits_for t (take k (unused_as f h))) o ∙ first_validity f k ps raws enough ∙ ap (take k) flat_is
-
-    pub optional_left : (v : OptionalPageValidity) (w : PageValues) → flat (to_come v) ≡ drop k (flat (to_come h.validity)) → map f (to_give w) ≡ drop (needed (take k (flat (to_come h.validity)))) (map f raws) → LeftIn h f k v w
-    optional_left v w d e =
-        kept_rows v w (ap (λ t. present_left t (h.rows - k) v) o ∙ d ∙ ap (drop k) (sym flat_is)) (e ∙ ap (λ t. drop (needed (take k t)) (map f raws)) (sym flat_is))
-
-  module _ (o : h.optional ≡ false) where
-    all_is : ps ≡ replicate h.rows true
-    all_is = ap (λ t. present_left t h.rows h.validity) o
-
-    first_is : take k ps ≡ replicate k true
-    first_is = ap (take k) all_is ∙ take-replicate k h.rows true within
-
-    first_number : needed (take k ps) ≡ k
-    first_number = ap needed first_is ∙ needed_all k
-
-    pub all_there : k ≤ length (map f raws)
-    all_there = omega (arith, first_number, enough_first f k ps raws enough)
-
-    pub stands_all : (b : Value) → stands b (take k (unused_as f h)) ≡ take k (map f raws)
-    stands_all b = first_stands f k ps raws enough b ∙ ap (λ t. filled b t (map f raws)) first_is ∙ filled_values b k (map f raws) all_there
-
-    pub required_left : (w : PageValues) → map f (to_give w) ≡ drop k (map f raws) → LeftIn h f k h.validity w
-    required_left w e =
-        kept_rows h.validity w (ap (λ t. present_left t (h.rows - k) h.validity) o ∙ sym (ap (drop k) all_is ∙ drop-replicate k h.rows true)) (e ∙ ap (λ n. drop n (map f raws)) (sym first_number))
+pub required_among : (o : Bool) (n k : ℕ) (v : OptionalPageValidity) → o ≡ false → k ≤ n → k ≡ needed (take k (present_left o n v))
+required_among o n k v e h = sym (ap needed (first_all o n k v e h) ∙ needed_values k)
 
 -- the first three tests of room, and all four
 pub no_room : (a b c d : Bool) → false ≡ (a && b && c) → false ≡ (a && b && c && d)
@@ -139,6 +102,11 @@ all_room true true true d e = refl
 all_room false b c d e = let z : ◌≡◌ {A = ℕ} 0 1 = cc in absurd (omega arith)
 all_room true false c d e = let z : ◌≡◌ {A = ℕ} 0 1 = cc in absurd (omega arith)
 all_room true true false d e = let z : ◌≡◌ {A = ℕ} 0 1 = cc in absurd (omega arith)
+
+both_true : (a b : Bool) → (a && b) ≡ true → (a ≡ true) × (b ≡ true)
+both_true true true e = (refl, refl)
+both_true true false e = absurd (grind arith)
+both_true false b e = absurd (grind arith)
 
 pub each_room : (a b c : Bool) → true ≡ (a && b && c) → (a ≡ true) × (b ≡ true) × (c ≡ true)
 each_room true true true e = (refl, refl, refl)
@@ -156,5 +124,13 @@ same_tests o r n k rows len cap count most us vs bs a b c d e =
     ∙ ap (λ x. leb k (length us) && leb (length vs + k) r.rows && leb (bits_due o (x + k)) most) d
     ∙ ap (λ x. leb k (length us) && leb (length vs + k) r.rows && leb (bits_due o (length bs + k)) x) e
 
-pub fits_then : (r : Room) (vs ws : List Value) (k : ℕ) → length ws ≡ k → length vs + k ≤ r.rows → weights vs + weights ws ≤ r.bytes → fits r (vs ++ ws) ≡ true
-fits_then r vs ws k l h w = fits_from r (vs ++ ws) (omega (arith, length-append vs ws)) (omega (arith, weights_append vs ws))
+-- what it takes that there is room for k rows
+pub room_parts : (o : Bool) (r : Room) (n k : ℕ) (us : List Row) (vs : List Value) (bs : List Bool) → true ≡ room_for o r n k us vs bs → (k ≤ length us) × (fits r (vs ++ stands r.blank (take k us)) ≡ true) × (bits_due o (length bs + k) ≤ n)
+room_parts o r n k us vs bs e =
+    let ws = stands r.blank (take k us) in
+    let u = both_true (leb k (length us) && leb (length vs + k) r.rows && leb (bits_due o (length bs + k)) n) (leb (weights vs + weights ws) r.bytes) (sym e) in
+    let t = each_room (leb k (length us)) (leb (length vs + k) r.rows) (leb (bits_due o (length bs + k)) n) (sym u.0) in
+    let w = leb-true k (length us) t.0 in
+    let l = leb-true (length vs + k) r.rows t.1 in
+    let z : length ws ≡ k = length_stands r.blank (take k us) ∙ length-take-le k us w in
+    (w, fits_from r (vs ++ ws) (omega (arith, length-append vs ws)) (omega (arith, weights_append vs ws, leb-true (weights vs + weights ws) r.bytes u.1)), leb-true (bits_due o (length bs + k)) n t.2)

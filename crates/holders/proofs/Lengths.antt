@@ -55,7 +55,7 @@ picked n es is false e = tt
 
 pub has_values : (f : Form) (n : ℕ) (v : Values) → Has n (values_left f n v)
 has_values f n (Plain bs at) = has_plain f n bs.now at
-has_values f n (Coded d i) = has_then n (dict_entries f d) _ (λ es. has_then n (indices_left i) _ (λ is. picked n es is (eqb (length is) n) refl))
+has_values f n (Coded d i) = has_then n (dict_entries d) _ (λ es. has_then n (indices_left i) _ (λ is. picked n es is (eqb (length is) n) refl))
 
 pub length_spread : {A : Type 0} (ps : List Bool) (vs : List A) → needed ps ≡ length vs → length (spread ps vs) ≡ length ps
 length_spread [] vs h = refl

@@ -4,7 +4,6 @@ pub mod Tally
 pub mod Below
 pub mod Codes
 pub mod Parting
-pub mod Found
 pub mod Nth
 pub mod Onward
 pub mod Fronts

@@ -1,5 +1,5 @@
 -- Rows by presence and values, cut at row k.
-use Rattle.std.proofs.Common.{◌≡◌, ℕ, zero, suc, ◌+◌, ◌≤◌, Bool, true, false, List, [], ◌∷◌, map, length, take, drop, replicate, Some, None, Option, sym, refl, ap, ◌∙◌, arith, length-drop}
+use Rattle.std.proofs.Common.{◌≡◌, ℕ, zero, suc, ◌+◌, ◌≤◌, Bool, true, false, List, [], ◌∷◌, map, length, take, drop, Some, None, Option, sym, refl, ap, ◌∙◌, arith, length-drop}
 use lib.ListN.{length-map}
 use Rattle.std.proofs.lemmas.List.{take-append-drop, take-map, drop-map}
 use Rattle.values.specs.Values.{Value, Row, null, value, stands, validity}
@@ -46,10 +46,6 @@ validity_rows (true ∷ ps) (v ∷ vs) h = ap {B = List Bool} (λ t. true ∷ t)
 
 pub needed_cut : (k : ℕ) (ps : List Bool) → needed (take k ps) + needed (drop k ps) ≡ needed ps
 needed_cut k ps = sym (needed_append (take k ps) (drop k ps)) ∙ ap needed (take-append-drop k ps)
-
-pub needed_all : (n : ℕ) → needed (replicate n true) ≡ n
-needed_all zero = refl
-needed_all (suc n) = ap suc (needed_all n)
 
 -- the first k rows, and those after them
 module _ (f : List ℕ → Value) (k : ℕ) (ps : List Bool) (raws : List (List ℕ)) (enough : needed ps ≤ length raws) where

@@ -12,10 +12,6 @@ use Rattle.faults.specs.Faults.{then_do}
 use Rattle.holders.specs.declared.types.Form.{Form}
 use Rattle.holders.specs.declared.types.Form.TheVariants.{Four, Eight, Bits, Arrays}
 
--- the form that a number stands for: 4 or 8 bytes, 1 for bits, 0 for values after their lengths
-abbrev pub form_of : ℕ → Form
-form_of f = cond (f == 8) Eight (cond (f == 1) Bits (cond (f == 0) Arrays Four))
-
 -- go on with what there is
 abbrev pub some_then : {A B : Type 0} → Option A → (A → Option B) → Option B
 some_then (Some x) f = f x
@@ -61,6 +57,10 @@ entries Four n bs = fixed 4 false n bs
 entries Eight n bs = fixed 8 false n bs
 entries Bits n bs = None
 entries Arrays n bs = arrays_in n bs
+
+-- the entries of a dictionary page, if there are not too many
+abbrev pub dictionary : Form → ℕ → List ℕ → Option (List (List ℕ))
+dictionary f n bs = cond (nat_le n 1048576) (entries f n bs) None
 
 -- whether the dictionary encodings are read
 abbrev pub coded : Form → Bool

@@ -1,12 +1,12 @@
 -- What is left of a page's values.
-use Rattle.std.specs.Prelude.{ℕ, ◌+◌, ◌-◌, ◌*◌, ◌^◌, min, Bool, true, false, cond, ◌&&◌, List, [], ◌∷◌, ◌++◌, map, length, replicate, is_some, Some, None, Ok, Err, Option, Result, ◌==◌, nat_le}
+use Rattle.std.specs.Prelude.{ℕ, ◌+◌, ◌-◌, ◌*◌, ◌^◌, min, Bool, true, false, cond, ◌&&◌, List, [], ◌∷◌, ◌++◌, map, length, replicate, Some, None, Ok, Err, Option, Result, ◌==◌, nat_le}
 use Rattle.std.specs.List.{flat_map}
 use Rattle.hybrid_rle.specs.Runs.{fields, runs}
 use Rattle.hybrid_rle.specs.Rows.{flat}
 use Rattle.hybrid_rle.specs.Cursor.{to_come}
 use Rattle.hybrid_rle.specs.declared.header.Broken.{Broken}
 use Rattle.hybrid_rle.specs.declared.validity.OptionalPageValidity.{OptionalPageValidity}
-use Rattle.holders.specs.Judge.{some_then, parts, arrays_in, entries, chosen}
+use Rattle.holders.specs.Judge.{some_then, parts, arrays_in, dictionary, chosen}
 use Rattle.holders.specs.declared.types.Form.{Form}
 use Rattle.holders.specs.declared.types.Form.TheVariants.{Four, Eight, Bits, Arrays}
 use Rattle.holders.specs.declared.types.Dict.{Dict}
@@ -44,26 +44,22 @@ numbers_left c r = some_then c (λ is. some_then (ok_some r) (λ xss. Some (is +
 abbrev pub indices_left : Indices → Option (List ℕ)
 indices_left i = cond (nat_le i.runs.w 32 && nat_le i.runs.left 1048576) (numbers_left (current_numbers i.runs.w i.current) (runs i.runs.w (2 ^ 32 - 1) i.runs.left i.runs.rest.now)) None
 
-abbrev pub dict_entries : Form → Dict → Option (List (List ℕ))
-dict_entries f d = cond (nat_le d.entries 1048576) (entries f d.entries d.body.now) None
+abbrev pub dict_entries : Dict → Option (List (List ℕ))
+dict_entries d = dictionary d.form d.entries d.body.now
 
 -- the n values to come
 abbrev pub values_left : Form → ℕ → Values → Option (List (List ℕ))
 values_left f n (Plain bs at) = plain_left f n bs.now at
-values_left f n (Coded d i) = some_then (dict_entries f d) (λ es. some_then (indices_left i) (λ is. cond (length is == n) (chosen es is) None))
+values_left f n (Coded d i) = some_then (dict_entries d) (λ es. some_then (indices_left i) (λ is. cond (length is == n) (chosen es is) None))
 
 -- the rows to come, by presence
 abbrev pub present_left : Bool → ℕ → OptionalPageValidity → List Bool
 present_left true n v = flat (to_come v)
 present_left false n v = replicate n true
 
-abbrev pub held_entries : Form → Option Dict → Option (List (List ℕ))
-held_entries f None = None
-held_entries f (Some d) = dict_entries f d
-
-abbrev pub dict_fine : Form → Option Dict → Bool
-dict_fine f None = true
-dict_fine f (Some d) = is_some (dict_entries f d)
+abbrev pub held_entries : Option Dict → Option (List (List ℕ))
+held_entries None = None
+held_entries (Some d) = dict_entries d
 
 abbrev pub or_none : {A : Type 0} → Option (List A) → List A
 or_none (Some xs) = xs

@@ -9,3 +9,4 @@ pub mod Counts
 pub mod Entries
 pub mod Cursors
 pub mod Filled
+pub mod Memory

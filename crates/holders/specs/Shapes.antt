@@ -1,35 +1,29 @@
 -- The answers of the checks, by what they mean.
-use Rattle.std.specs.Prelude.{ℕ, Bool, true, List, Some, None, Ok, Err, Option, Result}
+use Rattle.std.specs.Prelude.{ℕ, Bool, true, cond, List, Some, None, Ok, Err, Option, Result, ◌==◌}
 use Rattle.std.specs.Borrow.{Bor}
 use Rattle.faults.specs.declared.types.Cause.{Cause}
+use Rattle.faults.specs.declared.types.Cause.TheVariants.{Encoding as no_encoding}
 use Rattle.holders.specs.Judge.{spread}
-use Rattle.std.specs.Option.{option_map}
-use Rattle.holders.specs.Left.{held_entries, dict_fine, values_left}
-use Rattle.holders.specs.declared.types.Form.{Form}
+use Rattle.holders.specs.Left.{held_entries}
+use Rattle.holders.specs.Cursors.{to_give}
+use Rattle.holders.specs.declared.checks.Encoding.{Encoding}
+use Rattle.holders.specs.declared.checks.Encoding.TheVariants.{Plain, Dictionary}
 use Rattle.holders.specs.declared.types.Dict.{Dict}
-use Rattle.holders.specs.declared.types.Values.{Values}
+use Rattle.holders.specs.declared.page_values.PageValues.{PageValues}
+
+-- the encoding that a page's number stands for
+abbrev pub encoding_of : ℕ → Result Encoding Cause
+encoding_of e = cond (e == 0) (Ok Plain) (cond (cond (e == 2) true (e == 8)) (Ok Dictionary) (Err no_encoding))
 
 -- the entries of a dictionary that may be none
-abbrev pub entried : Form → Result (Option Dict) Cause → Result (Option (List (List ℕ))) Cause
-entried f (Ok o) = Ok (held_entries f o)
-entried f (Err e) = Err e
+abbrev pub entried : Result (Option Dict) Cause → Result (Option (List (List ℕ))) Cause
+entried (Ok o) = Ok (held_entries o)
+entried (Err e) = Err e
 
-abbrev pub fine_in : Form → Result (Option Dict) Cause → Bool
-fine_in f (Ok o) = dict_fine f o
-fine_in f (Err e) = true
-
--- the values that are left, if the check found them
-abbrev pub left_in : Form → ℕ → Result Values Cause → Result (Option (List (List ℕ))) Cause
-left_in f n (Ok v) = Ok (values_left f n v)
-left_in f n (Err e) = Err e
-
-abbrev pub sure : {A : Type 0} → Result A Cause → Result (Option A) Cause
-sure (Ok x) = Ok (Some x)
-sure (Err e) = Err e
-
-abbrev pub done : {A : Type 0} → Result A Cause → Result (Unit {0}) Cause
-done (Ok x) = Ok tt
-done (Err e) = Err e
+-- the values of a page, if the check found them
+abbrev pub given : Result PageValues Cause → Result (List (List ℕ)) Cause
+given (Ok p) = Ok (to_give p)
+given (Err e) = Err e
 
 -- presence, and the bytes of the values
 abbrev pub seen : List Bool → Result (ℕ × Bor (List ℕ)) Cause → Result (List Bool × List ℕ) Cause
@@ -46,12 +40,12 @@ if_ok (Ok x) n = n
 if_ok (Err e) n = 0
 
 -- the rows that the values make
-abbrev pub shown : Form → List Bool → Result (ℕ × Values) Cause → Result (Option (List (Option (List ℕ)))) Cause
-shown f ps (Ok p) = Ok (option_map (spread ps) (values_left f p.0 p.1))
-shown f ps (Err e) = Err e
+abbrev pub shown : List Bool → Result PageValues Cause → Result (List (Option (List ℕ))) Cause
+shown ps (Ok p) = Ok (spread ps (to_give p))
+shown ps (Err e) = Err e
 
-abbrev pub number_in : Result (ℕ × Values) Cause → ℕ
-number_in (Ok p) = p.0
+abbrev pub number_in : Result PageValues Cause → ℕ
+number_in (Ok p) = p.n
 number_in (Err e) = 0
 
 -- two parts of the bytes

@@ -1,9 +1,10 @@
 ghost use Rattle.std.specs.Prelude.{◌≡◌, ◌≤◌, true, is_some};
 ghost use Rattle.holders.specs.Judge as judge;
 ghost use Rattle.holders.specs.declared.types.Form.TheVariants.{Bits};
-ghost use Rattle.holders.specs.Left.{held_entries, dict_fine};
-ghost use Rattle.holders.specs.Shapes.{entried, fine_in};
+ghost use Rattle.holders.specs.Left.{held_entries};
+ghost use Rattle.holders.specs.Shapes.{entried, encoding_of};
 
+use crate::arrays::arrays_fit;
 use crate::types::{Dict, Form};
 use faults::types::Cause;
 
@@ -21,19 +22,29 @@ pub(crate) fn few(n: u32) -> Result<(), Cause>
 pub(crate) fn flagged(optional: bool, flag: bool) -> Result<(), Cause>
     ensures { result ≡ judge.flagged optional flag }
 {
-    match (optional, flag) {
-        (true, true) => Ok(()),
-        (false, false) => Ok(()),
-        _ => Err(Cause::Flag),
+    if optional != flag {
+        return Err(Cause::Flag);
     }
+    Ok(())
 }
 
-pub(crate) fn coded(form: Form) -> bool
-    ensures { result ≡ judge.coded form }
-{
-    match form {
-        Form::Bits => false,
-        _ => true,
+// How the values of a data page are encoded, by the number that the page has.
+pub(crate) enum Encoding {
+    Plain,
+    Dictionary,
+}
+
+impl TryFrom<u8> for Encoding {
+    type Error = Cause;
+
+    ghost try_from_gives = { λ n r. r ≡ encoding_of n };
+
+    fn try_from(number: u8) -> Result<Self, Cause> {
+        match number {
+            0 => Ok(Encoding::Plain),
+            2 | 8 => Ok(Encoding::Dictionary),
+            _ => Err(Cause::Encoding),
+        }
     }
 }
 
@@ -43,24 +54,17 @@ pub(crate) fn encoded<'a>(
     dict: Option<Dict<'a>>,
     encoding: u8,
 ) -> Result<Option<Dict<'a>>, Cause>
-    requires { dict_fine form dict ≡ true }
-    ensures answer { entried form result ≡ judge.encoded form (held_entries form dict.entry) encoding }
-    ensures fine { fine_in form result ≡ true }
+    ensures { entried result ≡ judge.encoded form (held_entries dict.entry) encoding }
 {
-    if encoding == 0 {
-        return Ok(None);
-    }
-    if !coded(form) || encoding != 2 && encoding != 8 {
-        return Err(Cause::Encoding);
-    }
-    match dict {
-        None => Err(Cause::NoDictionary),
-        Some(d) => Ok(Some(d)),
+    match Encoding::try_from(encoding)? {
+        Encoding::Plain => Ok(None),
+        Encoding::Dictionary if form == Form::Bits => Err(Cause::Encoding),
+        Encoding::Dictionary => Ok(Some(dict.ok_or(Cause::NoDictionary)?)),
     }
 }
 
 // The needed elements of one width.
-pub(crate) fn fixed_fits(w: usize, optional: bool, n: usize, bytes: &[u8]) -> bool
+fn fixed_fits(w: usize, optional: bool, n: usize, bytes: &[u8]) -> bool
     requires { (1 ≤ w) × ((w ≤ 8) × (n ≤ 1048576)) }
     ensures { result ≡ is_some (judge.fixed w optional n bytes.now) }
 {
@@ -71,20 +75,22 @@ pub(crate) fn fixed_fits(w: usize, optional: bool, n: usize, bytes: &[u8]) -> bo
     }
 }
 
-pub(crate) fn bits_fit(n: usize, bytes: &[u8]) -> bool
+fn bits_fit(n: usize, bytes: &[u8]) -> bool
     requires { n ≤ 1048576 }
     ensures { result ≡ is_some (judge.plain Bits true n bytes.now) }
 {
     (n + 7) / 8 <= bytes.len()
 }
 
-pub(crate) fn form_of(f: u8) -> Form
-    ensures { result ≡ judge.form_of f }
+// Whether the rule for plain values holds.
+pub(crate) fn plain_fits(form: Form, optional: bool, n: usize, bytes: &[u8]) -> bool
+    requires { n ≤ 1048576 }
+    ensures { result ≡ is_some (judge.plain form optional n bytes.now) }
 {
-    match f {
-        8 => Form::Eight,
-        1 => Form::Bits,
-        0 => Form::Arrays,
-        _ => Form::Four,
+    match form {
+        Form::Four => fixed_fits(4, optional, n, bytes),
+        Form::Eight => fixed_fits(8, optional, n, bytes),
+        Form::Bits => bits_fit(n, bytes),
+        Form::Arrays => arrays_fit(n, bytes),
     }
 }

@@ -1,12 +1,12 @@
-ghost use Rattle.std.specs.Prelude.{◌≡◌, ℕ, true, List, [], map, ℤ};
+ghost use Rattle.std.specs.Prelude.{◌≡◌, ℕ, true, List, [], map};
 ghost use Rattle.std.specs.Option.{option_map};
 ghost use Rattle.pages.specs.Delivered.{first, others};
-ghost use Rattle.values.specs.Values.{Value, number, weight};
+ghost use Rattle.values.specs.Values.{Value, weight};
 ghost use Rattle.holders.specs.Cursors.{to_give};
 
 use crate::page_values::PageValues;
 use std::marker::PhantomData;
-use values::{Element, Valued};
+use values::Valued;
 
 // Values that come one after the other.
 pub trait Cursor {
@@ -34,15 +34,19 @@ pub trait OverPage<'a>: Cursor {
         ensures { result ≡ true → (bs : List ℕ) → weight (value bs) ≡ 0 };
 }
 
-// What becomes of a value's bytes: an interface of one function, to a number.
-pub trait Conversion<T: Element> {
-    ghost int: { List ℕ → ℤ };
+// What becomes of a value's bytes.
+pub trait Conversion<'a, T: Valued> {
+    ghost value: { List ℕ → Value };
 
-    fn convert(&self, bytes: &[u8]) -> T
-        ensures { T.Element.int result ≡ int bytes.now };
+    fn convert(&self, bytes: &'a [u8]) -> T
+        ensures { T.Valued.value result ≡ value bytes.now };
+
+    // Whether no value takes any of a chunk's memory for bytes.
+    fn light(&self) -> bool
+        ensures { result ≡ true → (bs : List ℕ) → weight (value bs) ≡ 0 };
 }
 
-// The values of a page, converted to numbers.
+// The values of a page, each of them converted.
 #[derive(Drop)]
 pub struct Converted<'a, T, K> {
     values: PageValues<'a>,
@@ -50,7 +54,7 @@ pub struct Converted<'a, T, K> {
     item: PhantomData<T>,
 }
 
-impl<'a, T: Element, K: Conversion<T>> Converted<'a, T, K> {
+impl<'a, T: Valued, K: Conversion<'a, T>> Converted<'a, T, K> {
     // Over no page.
     pub fn new(op: K) -> Self
         ensures { to_give result.values ≡ [] }
@@ -63,21 +67,19 @@ impl<'a, T: Element, K: Conversion<T>> Converted<'a, T, K> {
     }
 }
 
-impl<'a, T: Element, K: Conversion<T>> Cursor for Converted<'a, T, K> {
+impl<'a, T: Valued, K: Conversion<'a, T>> Cursor for Converted<'a, T, K> {
     type Item = T;
 
-    ghost left = { λ s. map (λ bs. number (K.Conversion.int bs)) (to_give s.values) };
+    ghost left = { λ s. map K.Conversion.value (to_give s.values) };
 
     fn next(&mut self) -> Option<T> {
-        match self.values.next() {
-            None => None,
-            Some(bytes) => Some(self.op.convert(bytes)),
-        }
+        let bytes = self.values.next()?;
+        Some(self.op.convert(bytes))
     }
 }
 
-impl<'a, T: Element, K: Conversion<T>> OverPage<'a> for Converted<'a, T, K> {
-    ghost value = { λ bs. number (K.Conversion.int bs) };
+impl<'a, T: Valued, K: Conversion<'a, T>> OverPage<'a> for Converted<'a, T, K> {
+    ghost value = { K.Conversion.value };
 
     fn load(&mut self, values: PageValues<'a>) {
         self.values = values;
@@ -88,6 +90,6 @@ impl<'a, T: Element, K: Conversion<T>> OverPage<'a> for Converted<'a, T, K> {
     }
 
     fn light(&self) -> bool {
-        true
+        self.op.light()
     }
 }

@@ -1,5 +1,4 @@
 ghost use Rattle.std.specs.Prelude.{◌≡◌, ◌<◌, ◌≤◌, true, false, is_some, Some};
-ghost use Rattle.std.specs.Option.{option_map};
 ghost use Rattle.holders.specs.Judge as judge;
 ghost use Rattle.holders.specs.Entries.{nth_in};
 ghost use Rattle.holders.specs.Left.{dict_entries};
@@ -8,7 +7,7 @@ use crate::arrays::counted;
 use crate::types::{Dict, Form};
 
 // The ith of n values, by going over those before it.
-pub(crate) fn array_at<'a>(bytes: &'a [u8], n: usize, i: usize) -> &'a [u8]
+fn array_at<'a>(bytes: &'a [u8], n: usize, i: usize) -> &'a [u8]
     requires { (is_some (judge.arrays_in n bytes.now) ≡ true) × (i < n) }
     ensures { Some result.now ≡ nth_in (judge.arrays_in n bytes.now) i }
 {
@@ -26,7 +25,7 @@ pub(crate) fn array_at<'a>(bytes: &'a [u8], n: usize, i: usize) -> &'a [u8]
 }
 
 // The ith element of w bytes.
-pub(crate) fn part_at<'a>(bytes: &'a [u8], w: usize, n: usize, i: usize) -> &'a [u8]
+fn part_at<'a>(bytes: &'a [u8], w: usize, n: usize, i: usize) -> &'a [u8]
     requires { (is_some (judge.fixed w false n bytes.now) ≡ true) × ((i < n) × ((w ≤ 8) × (n ≤ 1048576))) }
     ensures { Some result.now ≡ nth_in (judge.fixed w false n bytes.now) i }
 {
@@ -34,15 +33,18 @@ pub(crate) fn part_at<'a>(bytes: &'a [u8], w: usize, n: usize, i: usize) -> &'a 
     &bytes[at..at + w]
 }
 
-// The bytes of an entry.
-pub(crate) fn entry_bytes<'a>(form: Form, dict: Dict<'a>, i: usize) -> &'a [u8]
-    requires { (is_some (dict_entries form dict) ≡ true) × (i < dict.entries) }
-    ensures { Some result.now ≡ nth_in (dict_entries form dict.entry) i }
-{
-    match form {
-        Form::Four => part_at(dict.body, 4, dict.entries as usize, i),
-        Form::Eight => part_at(dict.body, 8, dict.entries as usize, i),
-        Form::Bits => unreachable(),
-        Form::Arrays => array_at(dict.body, dict.entries as usize, i),
+impl<'a> Dict<'a> {
+    // The bytes of an entry.
+    pub(crate) fn get(self, i: usize) -> &'a [u8]
+        requires { i < self.entries }
+        ensures { Some result.now ≡ nth_in (dict_entries self.entry) i }
+    {
+        let n = self.entries as usize;
+        match self.form {
+            Form::Four => part_at(self.body, 4, n, i),
+            Form::Eight => part_at(self.body, 8, n, i),
+            Form::Bits => unreachable(),
+            Form::Arrays => array_at(self.body, n, i),
+        }
     }
 }

@@ -1,7 +1,5 @@
 ghost use Rattle.holders.specs.Cases.{Cases};
 
-pub fn cases_stand() -> u8
+pub fn cases_stand()
     ensures { Cases }
-{
-    0
-}
+{}

@@ -1,16 +1,15 @@
-ghost use Rattle.std.specs.Prelude.{◌≡◌, ◌-◌, ◌<◌, ◌≤◌, true, is_some};
+ghost use Rattle.std.specs.Prelude.{◌≡◌, ◌-◌, ◌<◌, true, is_some};
 ghost use Rattle.holders.specs.Judge as judge;
-ghost use Rattle.holders.specs.declared.types.Form.TheVariants.{Bits};
 ghost use Rattle.holders.specs.Entries.{raw_bit};
 ghost use Rattle.holders.specs.Left.{plain_left, values_left};
 
 use crate::arrays::counted;
-use crate::entry::entry_bytes;
+use crate::page_values::PageValues;
 use crate::types::{Form, Values};
 use hybrid_rle::unpack::unpacked;
 
-// The first of n plain values, and the bytes after it.
-fn front<'a>(form: Form, n: usize, bytes: &'a [u8]) -> (&'a [u8], &'a [u8])
+// The first of n plain values of whole bytes, and the bytes after it.
+fn whole_front<'a>(form: Form, n: usize, bytes: &'a [u8]) -> (&'a [u8], &'a [u8])
     requires { (is_some (plain_left form n bytes.now 0) ≡ true) × ((0 < n) × (judge.coded form ≡ true)) }
     ensures { judge.put result.0.now (plain_left form (n - 1) result.1.now 0) ≡ plain_left form n bytes.now 0 }
 {
@@ -25,44 +24,6 @@ fn front<'a>(form: Form, n: usize, bytes: &'a [u8]) -> (&'a [u8], &'a [u8])
     }
 }
 
-// The bytes of the next of n values, in the data page or in the dictionary page.
-pub(crate) fn next_value<'a>(form: Form, n: usize, values: &mut Values<'a>) -> &'a [u8]
-    requires { (is_some (values_left form n values.old) ≡ true) × ((0 < n) × (judge.coded form ≡ true)) }
-    ensures { judge.put result.now (values_left form (n - 1) values.new) ≡ values_left form n values.old }
-{
-    match *values {
-        Values::Plain { bytes, .. } => {
-            let (value, rest) = front(form, n, bytes);
-            *values = Values::Plain { bytes: rest, at: 0 };
-            value
-        }
-        Values::Coded { dict, indices } => {
-            let mut after = indices;
-            let i = after.next();
-            *values = Values::Coded {
-                dict,
-                indices: after,
-            };
-            entry_bytes(form, dict, i as usize)
-        }
-    }
-}
-
-// The next of n bits.
-pub(crate) fn next_bit<'a>(n: usize, values: &mut Values<'a>) -> bool
-    requires { (is_some (values_left Bits n values.old) ≡ true) × (0 < n) }
-    ensures { judge.put (raw_bit result) (values_left Bits (n - 1) values.new) ≡ values_left Bits n values.old }
-{
-    match *values {
-        Values::Plain { bytes, at } => {
-            let bit = unpacked(bytes, 1, at);
-            *values = Values::Plain { bytes, at: at + 1 };
-            bit == 1
-        }
-        Values::Coded { .. } => unreachable(),
-    }
-}
-
 // The raw value of a bit.
 fn bit_bytes(bit: bool) -> &'static [u8]
     ensures { result.now ≡ raw_bit bit }
@@ -70,13 +31,37 @@ fn bit_bytes(bit: bool) -> &'static [u8]
     if bit { &[1] } else { &[0] }
 }
 
-// The bytes of the next of n values, of any form.
-pub(crate) fn take_value<'a>(form: Form, n: usize, values: &mut Values<'a>) -> &'a [u8]
-    requires { (is_some (values_left form n values.old) ≡ true) × (0 < n) }
-    ensures { judge.put result.now (values_left form (n - 1) values.new) ≡ values_left form n values.old }
+// The bytes of the first of n plain values, and the values after it.
+fn plain_front<'a>(form: Form, n: usize, bytes: &'a [u8], at: usize) -> (&'a [u8], Values<'a>)
+    requires { (is_some (plain_left form n bytes.now at) ≡ true) × (0 < n) }
+    ensures { judge.put result.0.now (values_left form (n - 1) result.1) ≡ plain_left form n bytes.now at }
 {
-    if let Form::Bits = form {
-        return bit_bytes(next_bit(n, values));
+    if form == Form::Bits {
+        let bit = unpacked(bytes, 1, at) == 1;
+        return (bit_bytes(bit), Values::Plain { bytes, at: at + 1 });
     }
-    next_value(form, n, values)
+    let (value, rest) = whole_front(form, n, bytes);
+    (value, Values::Plain { bytes: rest, at: 0 })
+}
+
+impl<'a> PageValues<'a> {
+    // The bytes of the first value, in the data page or in the dictionary page, and the values after it.
+    pub(crate) fn front(self) -> (&'a [u8], Values<'a>)
+        requires { 0 < self.n }
+        ensures { judge.put result.0.now (values_left self.entry.form (self.entry.n - 1) result.1) ≡ values_left self.entry.form self.entry.n self.entry.values }
+    {
+        match self.values {
+            Values::Plain { bytes, at } => plain_front(self.form, self.n, bytes, at),
+            Values::Coded { dict, indices } => {
+                let mut after = indices;
+                let i = after.next();
+                let value = dict.get(i as usize);
+                let rest = Values::Coded {
+                    dict,
+                    indices: after,
+                };
+                (value, rest)
+            }
+        }
+    }
 }

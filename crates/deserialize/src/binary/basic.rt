@@ -1,66 +1,42 @@
-ghost use Rattle.std.specs.Prelude.{◌≡◌, [], map, None};
-ghost use Rattle.values.specs.Values.{bytes};
-ghost use Rattle.holders.specs.Judge.{form_of};
+ghost use Rattle.std.specs.Prelude.{◌≡◌, ℕ, true, List, [], None};
+ghost use Rattle.values.specs.Values.{bytes, weight};
 ghost use Rattle.holders.specs.Columns.{column_of};
 ghost use Rattle.holders.specs.Convert.{byte_array_column};
-ghost use Rattle.holders.specs.Cursors.{to_give};
 ghost use Rattle.holders.specs.Holding.{held, unused_as};
 
 use crate::primitive::decoder::PageDecoder;
-use holders::cursor::{Cursor, OverPage};
-use holders::page_values::PageValues;
+use holders::cursor::{Conversion, Converted};
+use holders::types::Form;
 
-// The values of a page as the bytes that they are.
-#[derive(Drop)]
-pub struct BinaryIter<'a> {
-    values: PageValues<'a>,
-}
+// The bytes as they are.
+#[derive(Clone, Copy)]
+pub struct Whole;
 
-impl<'a> BinaryIter<'a> {
-    // Over no page.
-    pub fn new() -> Self
-        ensures { to_give result.values ≡ [] }
-    {
-        BinaryIter {
-            values: PageValues::empty(),
-        }
-    }
-}
-
-impl<'a> Cursor for BinaryIter<'a> {
-    type Item = &'a [u8];
-
-    ghost left = { λ s. map bytes (to_give s.values) };
-
-    fn next(&mut self) -> Option<&'a [u8]> {
-        self.values.next()
-    }
-}
-
-impl<'a> OverPage<'a> for BinaryIter<'a> {
+impl<'a> Conversion<'a, &'a [u8]> for Whole {
     ghost value = { bytes };
 
-    fn load(&mut self, values: PageValues<'a>) {
-        self.values = values;
-    }
-
-    fn rest(&self) -> PageValues<'a> {
-        self.values
+    fn convert(&self, bytes: &'a [u8]) -> &'a [u8] {
+        bytes
     }
 
     // Every byte of a value takes a byte of the chunk's memory.
-    fn light(&self) -> bool {
+    fn light(&self) -> bool
+        ensures { result ≡ true → (bs : List ℕ) → weight (bytes bs) ≡ 0 }
+    {
         false
     }
 }
 
+// The values of a page as the bytes that they are.
+pub type BinaryIter<'a> = Converted<'a, &'a [u8], Whole>;
+
 // BYTE_ARRAY.
-pub type ByteArray<'a> = PageDecoder<'a, 0, BinaryIter<'a>>;
+pub type ByteArray<'a> = PageDecoder<'a, BinaryIter<'a>>;
 
 pub fn byte_array<'a>(optional: bool) -> ByteArray<'a>
-    ensures column { column_of (form_of 0) bytes result.holder.optional ≡ byte_array_column optional }
+    ensures column { column_of result.holder.column.form bytes result.holder.column.optional ≡ byte_array_column optional }
     ensures unused { unused_as bytes result.holder ≡ [] }
     ensures held { held result.holder ≡ None }
 {
-    PageDecoder::new(optional, BinaryIter::new())
+    PageDecoder::new(Form::Arrays, optional, Converted::new(Whole))
 }

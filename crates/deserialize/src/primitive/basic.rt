@@ -1,6 +1,5 @@
 ghost use Rattle.std.specs.Prelude.{◌≡◌, false, cond, List, [], ◌++◌, length, None};
-ghost use Rattle.values.specs.Little.{signed, unsigned};
-ghost use Rattle.holders.specs.Judge.{form_of};
+ghost use Rattle.values.specs.Values.{number};
 ghost use Rattle.holders.specs.Columns.{column_of};
 ghost use Rattle.holders.specs.Convert.{keep_32, unsigned_32, keep_64, unsigned_64, int32_keep, int32_as_wide, int32_as_unsigned, int64_keep, float as float_column, double as double_column};
 ghost use Rattle.holders.specs.Holding.{held, unused_as};
@@ -10,27 +9,29 @@ use crate::utils::Decoder;
 use faults::types::Cause;
 use holders::cursor::{Conversion, Converted, Cursor, OverPage};
 use holders::holder::Holder;
+use holders::types::Form;
 use pages::page::Delivery;
-use sinks::pushable::{Pushable, Sink, Validity};
+use sinks::pushable::{Full, Pushable, Sink, Validity};
 use values::Element;
 
-impl<'a, const F: u8, C: OverPage<'a>> PageDecoder<'a, F, C> {
+impl<'a, C: OverPage<'a>> PageDecoder<'a, C> {
     // Neither page nor dictionary.
-    pub fn new(optional: bool, cursor: C) -> Self
+    pub fn new(form: Form, optional: bool, cursor: C) -> Self
         ensures unused { unused_as C.OverPage.value result.holder ≡ [] }
         ensures held { held result.holder ≡ None }
-        ensures optional { result.holder.optional ≡ optional }
+        ensures form { result.holder.column.form ≡ form }
+        ensures optional { result.holder.column.optional ≡ optional }
     {
         PageDecoder {
-            holder: Holder::empty(optional),
+            holder: Holder::empty(form, optional),
             cursor,
         }
     }
 }
 
-impl<'a, const F: u8, C: OverPage<'a>, P: Pushable<C::Item>, V: Validity> Decoder<'a, P, V>
-    for PageDecoder<'a, F, C> {
-    ghost column = { λ d. column_of (form_of F) C.OverPage.value d.holder.optional };
+impl<'a, C: OverPage<'a>, P: Pushable<C::Item>, V: Validity> Decoder<'a, P, V>
+    for PageDecoder<'a, C> {
+    ghost column = { λ d. column_of d.holder.column.form C.OverPage.value d.holder.column.optional };
 
     ghost unused = { λ d. unused_as C.OverPage.value d.holder };
 
@@ -48,29 +49,26 @@ impl<'a, const F: u8, C: OverPage<'a>, P: Pushable<C::Item>, V: Validity> Decode
         self.holder.hold(d)
     }
 
-    fn extend_from_state(&mut self, k: usize, sink: &mut P, validity: &mut V) -> bool {
+    fn extend_from_state(&mut self, k: usize, sink: &mut P, validity: &mut V) -> Result<(), Full> {
         self.holder
             .extend_from_state(&mut self.cursor, k, sink, validity)
     }
 }
 
-// A number as it is: signed, in four or eight bytes, the lowest first.
+// A number as its element type reads it: signed or unsigned, in four or eight bytes, the lowest first. A FLOAT or a DOUBLE is
+// kept as its bits, an unsigned number, so that every value is kept exactly.
 #[derive(Clone, Copy)]
 pub struct Keep;
 
-impl Conversion<i32> for Keep {
-    ghost int = { signed 4 };
+impl<'a, T: Element> Conversion<'a, T> for Keep {
+    ghost value = { λ bs. number (T.Element.reading bs) };
 
-    fn convert(&self, bytes: &[u8]) -> i32 {
-        i32::read(bytes)
+    fn convert(&self, bytes: &'a [u8]) -> T {
+        T::read(bytes)
     }
-}
 
-impl Conversion<i64> for Keep {
-    ghost int = { signed 8 };
-
-    fn convert(&self, bytes: &[u8]) -> i64 {
-        i64::read(bytes)
+    fn light(&self) -> bool {
+        true
     }
 }
 
@@ -78,108 +76,80 @@ impl Conversion<i64> for Keep {
 #[derive(Clone, Copy)]
 pub struct Widen;
 
-impl Conversion<i64> for Widen {
-    ghost int = { signed 4 };
+impl<'a> Conversion<'a, i64> for Widen {
+    ghost value = { keep_32 };
 
-    fn convert(&self, bytes: &[u8]) -> i64 {
+    fn convert(&self, bytes: &'a [u8]) -> i64 {
         i64::from(i32::read(bytes))
     }
-}
 
-// INT32's four bytes as an unsigned number.
-#[derive(Clone, Copy)]
-pub struct Unsigned;
-
-impl Conversion<u32> for Unsigned {
-    ghost int = { unsigned 4 };
-
-    fn convert(&self, bytes: &[u8]) -> u32 {
-        u32::read(bytes)
-    }
-}
-
-// The bits of a FLOAT or a DOUBLE, so that every value is kept exactly.
-#[derive(Clone, Copy)]
-pub struct Bits;
-
-impl Conversion<u32> for Bits {
-    ghost int = { unsigned 4 };
-
-    fn convert(&self, bytes: &[u8]) -> u32 {
-        u32::read(bytes)
-    }
-}
-
-impl Conversion<u64> for Bits {
-    ghost int = { unsigned 8 };
-
-    fn convert(&self, bytes: &[u8]) -> u64 {
-        u64::read(bytes)
+    fn light(&self) -> bool {
+        true
     }
 }
 
 // INT32, kept.
-pub type Int32<'a> = PageDecoder<'a, 4, Converted<'a, i32, Keep>>;
+pub type Int32<'a> = PageDecoder<'a, Converted<'a, i32, Keep>>;
 
 pub fn int32<'a>(optional: bool) -> Int32<'a>
-    ensures column { column_of (form_of 4) keep_32 result.holder.optional ≡ int32_keep optional }
+    ensures column { column_of result.holder.column.form keep_32 result.holder.column.optional ≡ int32_keep optional }
     ensures unused { unused_as keep_32 result.holder ≡ [] }
     ensures held { held result.holder ≡ None }
 {
-    PageDecoder::new(optional, Converted::new(Keep))
+    PageDecoder::new(Form::Four, optional, Converted::new(Keep))
 }
 
 // INT32, widened to eight bytes.
-pub type Int32Widen<'a> = PageDecoder<'a, 4, Converted<'a, i64, Widen>>;
+pub type Int32Widen<'a> = PageDecoder<'a, Converted<'a, i64, Widen>>;
 
 pub fn int32_widen<'a>(optional: bool) -> Int32Widen<'a>
-    ensures column { column_of (form_of 4) keep_32 result.holder.optional ≡ int32_as_wide optional }
+    ensures column { column_of result.holder.column.form keep_32 result.holder.column.optional ≡ int32_as_wide optional }
     ensures unused { unused_as keep_32 result.holder ≡ [] }
     ensures held { held result.holder ≡ None }
 {
-    PageDecoder::new(optional, Converted::new(Widen))
+    PageDecoder::new(Form::Four, optional, Converted::new(Widen))
 }
 
 // INT32, its bytes as an unsigned number.
-pub type Int32Unsigned<'a> = PageDecoder<'a, 4, Converted<'a, u32, Unsigned>>;
+pub type Int32Unsigned<'a> = PageDecoder<'a, Converted<'a, u32, Keep>>;
 
 pub fn int32_unsigned<'a>(optional: bool) -> Int32Unsigned<'a>
-    ensures column { column_of (form_of 4) unsigned_32 result.holder.optional ≡ int32_as_unsigned optional }
+    ensures column { column_of result.holder.column.form unsigned_32 result.holder.column.optional ≡ int32_as_unsigned optional }
     ensures unused { unused_as unsigned_32 result.holder ≡ [] }
     ensures held { held result.holder ≡ None }
 {
-    PageDecoder::new(optional, Converted::new(Unsigned))
+    PageDecoder::new(Form::Four, optional, Converted::new(Keep))
 }
 
 // INT64.
-pub type Int64<'a> = PageDecoder<'a, 8, Converted<'a, i64, Keep>>;
+pub type Int64<'a> = PageDecoder<'a, Converted<'a, i64, Keep>>;
 
 pub fn int64<'a>(optional: bool) -> Int64<'a>
-    ensures column { column_of (form_of 8) keep_64 result.holder.optional ≡ int64_keep optional }
+    ensures column { column_of result.holder.column.form keep_64 result.holder.column.optional ≡ int64_keep optional }
     ensures unused { unused_as keep_64 result.holder ≡ [] }
     ensures held { held result.holder ≡ None }
 {
-    PageDecoder::new(optional, Converted::new(Keep))
+    PageDecoder::new(Form::Eight, optional, Converted::new(Keep))
 }
 
 // FLOAT, held as its bits.
-pub type Float<'a> = PageDecoder<'a, 4, Converted<'a, u32, Bits>>;
+pub type Float<'a> = PageDecoder<'a, Converted<'a, u32, Keep>>;
 
 pub fn float<'a>(optional: bool) -> Float<'a>
-    ensures column { column_of (form_of 4) unsigned_32 result.holder.optional ≡ float_column optional }
+    ensures column { column_of result.holder.column.form unsigned_32 result.holder.column.optional ≡ float_column optional }
     ensures unused { unused_as unsigned_32 result.holder ≡ [] }
     ensures held { held result.holder ≡ None }
 {
-    PageDecoder::new(optional, Converted::new(Bits))
+    PageDecoder::new(Form::Four, optional, Converted::new(Keep))
 }
 
 // DOUBLE, held as its bits.
-pub type Double<'a> = PageDecoder<'a, 8, Converted<'a, u64, Bits>>;
+pub type Double<'a> = PageDecoder<'a, Converted<'a, u64, Keep>>;
 
 pub fn double<'a>(optional: bool) -> Double<'a>
-    ensures column { column_of (form_of 8) unsigned_64 result.holder.optional ≡ double_column optional }
+    ensures column { column_of result.holder.column.form unsigned_64 result.holder.column.optional ≡ double_column optional }
     ensures unused { unused_as unsigned_64 result.holder ≡ [] }
     ensures held { held result.holder ≡ None }
 {
-    PageDecoder::new(optional, Converted::new(Bits))
+    PageDecoder::new(Form::Eight, optional, Converted::new(Keep))
 }

@@ -1,43 +1,39 @@
 ghost use Rattle.std.specs.Prelude.{◌≡◌, [], length, None};
 ghost use Rattle.pages.specs.Meaning.{meaning};
-ghost use Rattle.holders.specs.Judge.{judge, form_of};
+ghost use Rattle.holders.specs.Judge.{judge};
 ghost use Rattle.holders.specs.Holding.{unused, held, answered, rows_after, held_after, page_verdict, dict_verdict};
 
 use super::Holder;
-use crate::checks::{coded, few, form_of};
+use crate::checks::{few, plain_fits};
 use crate::page::checked_page;
 use crate::page_values::PageValues;
-use crate::types::{Dict, Values};
-use crate::value_checks::entries_fit;
+use crate::types::{Column, Dict, Form};
 use faults::types::Cause;
 use hybrid_rle::validity::OptionalPageValidity;
 use pages::page::{DataPage, Delivery, DictPage, Page};
 
-impl<'a, const F: u8> Holder<'a, F> {
+impl<'a> Holder<'a> {
     // No page and no dictionary.
-    pub fn empty(optional: bool) -> Self
+    pub fn empty(form: Form, optional: bool) -> Self
         ensures rows { unused result ≡ [] }
         ensures dict { held result ≡ None }
-        ensures flag { result.optional ≡ optional }
+        ensures form { result.column.form ≡ form }
+        ensures flag { result.column.optional ≡ optional }
     {
         Holder {
-            optional,
+            column: Column { form, optional },
             dict: None,
             rows: 0,
             validity: OptionalPageValidity::empty(),
-            values: PageValues {
-                form: F,
-                n: 0,
-                values: Values::Plain { bytes: &[], at: 0 },
-            },
+            values: PageValues::empty(),
         }
     }
 
     // Whether a row may be null.
     pub fn optional(&self) -> bool
-        ensures { result ≡ self.now.optional }
+        ensures { result ≡ self.now.column.optional }
     {
-        self.optional
+        self.column.optional
     }
 
     // The rows not used yet.
@@ -52,17 +48,18 @@ impl<'a, const F: u8> Holder<'a, F> {
         ensures answer { result ≡ answered (dict_verdict self.old p.entry.entries p.entry.body.now) }
         ensures rows { unused self.new ≡ rows_after (dict_verdict self.old p.entry.entries p.entry.body.now) (unused self.old) }
         ensures dict { held self.new ≡ held_after (dict_verdict self.old p.entry.entries p.entry.body.now) (held self.old) }
-        ensures flag { self.new.optional ≡ self.old.optional }
+        ensures column { self.new.column ≡ self.old.column }
     {
-        let form = form_of(F);
-        if !coded(form) {
+        let form = self.column.form;
+        if form == Form::Bits {
             return Ok(());
         }
         few(p.entries)?;
-        if !entries_fit(form, p.entries as usize, p.body) {
+        if !plain_fits(form, false, p.entries as usize, p.body) {
             return Err(Cause::Dictionary);
         }
         self.dict = Some(Dict {
+            form,
             entries: p.entries,
             body: p.body,
         });
@@ -74,26 +71,26 @@ impl<'a, const F: u8> Holder<'a, F> {
         ensures answer { result ≡ answered (page_verdict self.old p.entry.rows p.entry.encoding p.entry.optional p.entry.body.now) }
         ensures rows { unused self.new ≡ rows_after (page_verdict self.old p.entry.rows p.entry.encoding p.entry.optional p.entry.body.now) (unused self.old) }
         ensures dict { held self.new ≡ held_after (page_verdict self.old p.entry.rows p.entry.encoding p.entry.optional p.entry.body.now) (held self.old) }
-        ensures flag { self.new.optional ≡ self.old.optional }
+        ensures column { self.new.column ≡ self.old.column }
     {
         let mut validity = OptionalPageValidity::empty();
-        let (n, values) = checked_page(form_of(F), self.optional, self.dict, &mut validity, p)?;
+        let values = checked_page(self.column, self.dict, &mut validity, p)?;
         *self = Holder {
-            optional: self.optional,
+            column: self.column,
             dict: self.dict,
             rows: p.rows,
             validity,
-            values: PageValues { form: F, n, values },
+            values,
         };
         Ok(())
     }
 
     // Checks a delivery whole, and holds it if it is sound; a refusal changes nothing.
     pub fn hold(&mut self, d: Delivery<'a>) -> Result<(), Cause>
-        ensures answer { result ≡ answered (judge (form_of F) self.old.optional (held self.old) (meaning d.entry)) }
-        ensures rows { unused self.new ≡ rows_after (judge (form_of F) self.old.optional (held self.old) (meaning d.entry)) (unused self.old) }
-        ensures dict { held self.new ≡ held_after (judge (form_of F) self.old.optional (held self.old) (meaning d.entry)) (held self.old) }
-        ensures flag { self.new.optional ≡ self.old.optional }
+        ensures answer { result ≡ answered (judge self.old.column.form self.old.column.optional (held self.old) (meaning d.entry)) }
+        ensures rows { unused self.new ≡ rows_after (judge self.old.column.form self.old.column.optional (held self.old) (meaning d.entry)) (unused self.old) }
+        ensures dict { held self.new ≡ held_after (judge self.old.column.form self.old.column.optional (held self.old) (meaning d.entry)) (held self.old) }
+        ensures column { self.new.column ≡ self.old.column }
     {
         match d? {
             Page::Data(p) => self.hold_page(p),

@@ -1,21 +1,19 @@
 ghost use Rattle.std.specs.Prelude.{◌≡◌, [], length, is_some};
 ghost use Rattle.std.specs.Option.{option_map};
 ghost use Rattle.pages.specs.Delivered.{first, others};
-ghost use Rattle.holders.specs.Judge.{form_of};
 ghost use Rattle.holders.specs.Cursors.{to_give};
 
 use super::PageValues;
-use crate::checks::form_of;
-use crate::take::take_value;
-use crate::types::Values;
+use crate::types::{Form, Values};
 
 impl<'a> PageValues<'a> {
     // No values.
     pub fn empty() -> Self
-        ensures { to_give result ≡ [] }
+        ensures none { to_give result ≡ [] }
+        ensures number { result.n ≡ 0 }
     {
         PageValues {
-            form: 4,
+            form: Form::Four,
             n: 0,
             values: Values::Plain { bytes: &[], at: 0 },
         }
@@ -35,8 +33,7 @@ impl<'a> PageValues<'a> {
         if self.n == 0 {
             return None;
         }
-        let mut values = self.values;
-        let value = take_value(form_of(self.form), self.n, &mut values);
+        let (value, values) = self.front();
         *self = PageValues {
             form: self.form,
             n: self.n - 1,

@@ -1,5 +1,4 @@
-use Rattle.std.proofs.Common.{◌≤◌, leb, map, length, take, ap, ◌∙◌, arith}
-use Rattle.values.specs.Values.{weights}
+use Rattle.std.proofs.Common.{◌≤◌, length, ap, arith}
 use Rattle.holders.specs.Judge.{needed}
 use Rattle.holders.specs.Left.{present_left}
 use Rattle.holders.specs.Cursors.{to_give}
@@ -15,14 +14,7 @@ returns-then-light g c =
 pub weigh_within-requires : goal.weigh_within-requires
 weigh_within-requires g c =
     let h = c.args.self.now in
-    let ps = present_left h.optional h.rows h.validity in
+    let ps = present_left h.column.optional h.rows h.validity in
     let a = all_needed h in
     let e : needed ps ≤ length (to_give h.values) = omega arith in
     omega (arith, c.present_among-n.ensures, ap length c.load.ensures, enough_first g.C.OverPage.value c.args.k ps (to_give h.values) e)
-
-pub returns : goal.returns
-returns g c =
-    let h = c.args.self.now in
-    c.weigh_within.ensures
-    ∙ ap (λ t. leb (weights (take c.present_among-n.result t)) c.args.spare) c.load.ensures
-    ∙ ap (λ n. leb (weights (take n (map g.C.OverPage.value (to_give h.values)))) c.args.spare) c.present_among-n.ensures
