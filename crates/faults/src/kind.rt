@@ -5,6 +5,12 @@ use crate::types::{Cause, Fault, Kind};
 use std::str::FromStr;
 
 // The kind of a column, by Parquet's name of its physical type.
+pub fn kind(name: &str) -> Result<Kind, Fault>
+    ensures { result ≡ kind_of name.now }
+{
+    Kind::from_str(name)
+}
+
 impl FromStr for Kind {
     type Err = Fault;
 

@@ -29,42 +29,37 @@ impl<T> Piece<'_, T> {
 }
 
 impl Piece<'_, bool> {
-    // The first `limit` rows, and those after them if there are any.
-    pub(crate) fn split_at(self, limit: usize) -> (Self, Option<Self>)
-        requires { Inside (Some self) }
-        ensures first { rows result.0 ≡ take limit (rows self.entry) }
-        ensures rest { held result.1 ≡ beyond limit (rows self.entry ∷ []) }
-        ensures first_inside { Inside (Some result.0) }
-        ensures rest_inside { Inside result.1 }
+    // Takes the first `limit` rows off a run that has more: they are the answer, and the run goes on after them.
+    pub(crate) fn take_front(&mut self, limit: usize) -> Self
+        requires inside { Inside (Some self.old) }
+        requires more { limit < piece_count self.old }
+        ensures first { rows result ≡ take limit (rows self.old) }
+        ensures rest { held (Some self.new) ≡ beyond limit (rows self.old ∷ []) }
+        ensures first_inside { Inside (Some result) }
+        ensures rest_inside { Inside (Some self.new) }
     {
-        let length = self.len();
-        if limit >= length {
-            return (self, None);
-        }
-        let rest = length - limit;
         match self {
-            Piece::Bitmap { bytes, offset, .. } => (
-                Piece::Bitmap {
-                    bytes,
-                    offset,
+            Piece::Bitmap {
+                bytes,
+                offset,
+                length,
+            } => {
+                let first = Piece::Bitmap {
+                    bytes: *bytes,
+                    offset: *offset,
                     length: limit,
-                },
-                Some(Piece::Bitmap {
-                    bytes,
-                    offset: row_after(offset, limit),
-                    length: rest,
-                }),
-            ),
-            Piece::Repeated { value, .. } => (
+                };
+                *offset = row_after(*offset, limit);
+                *length -= limit;
+                first
+            }
+            Piece::Repeated { value, length } => {
+                *length -= limit;
                 Piece::Repeated {
-                    value,
+                    value: *value,
                     length: limit,
-                },
-                Some(Piece::Repeated {
-                    value,
-                    length: rest,
-                }),
-            ),
+                }
+            }
         }
     }
 }

@@ -14,6 +14,7 @@ use crate::cursor::{Cursor, OverPage};
 use crate::decode::extend_from_decoder;
 use crate::fill::extend_required;
 use crate::measure::{count_present, weigh_within};
+use bitmap::utils::has_room;
 use hybrid_rle::validity::OptionalPageValidity;
 use sinks::pushable::{Full, Pushable, Sink, Validity};
 
@@ -160,13 +161,6 @@ fn extend_rows<'p, C: Cursor, P: Pushable<C::Item>, V: Validity>(
     rows - k as u32
 }
 
-// Whether n and k more are at most `cap`.
-fn within(n: usize, k: usize, cap: usize) -> bool
-    ensures { result ≡ nat_le (n + k) cap }
-{
-    k <= cap && n <= cap - k
-}
-
 // Whether there are k rows, and room for them in rows and validity bits.
 fn room(
     k: usize,
@@ -179,5 +173,5 @@ fn room(
 ) -> bool
     ensures { result ≡ (nat_le k left && nat_le (rows + k) cap && nat_le (bits_due optional (bits + k)) most) }
 {
-    k <= left && within(rows, k, cap) && (!optional || within(bits, k, most))
+    k <= left && has_room(rows, k, cap) && (!optional || has_room(bits, k, most))
 }

@@ -11,7 +11,7 @@ use crate::runs::{Runs, check};
 
 impl<'a> OptionalPageValidity<'a> {
     // The rows of the next run of the stream, up to the last row.
-    fn load(&mut self) -> Option<Piece<'a, bool>>
+    fn next_run(&mut self) -> Option<Piece<'a, bool>>
         ensures given { held result ++ later self.new.runs.left self.new.runs.rest.now ≡ later self.old.runs.left self.old.runs.rest.now }
         ensures inside { Inside result }
         ensures ended { result ≡ None → self.new.runs.left ≡ 0 }
@@ -23,6 +23,16 @@ impl<'a> OptionalPageValidity<'a> {
         }
     }
 
+    // Where no run is current, the next run of the stream becomes it.
+    fn load(&mut self)
+        ensures same { to_come self.new ≡ to_come self.old }
+        ensures ended { self.new.current ≡ None → to_come self.new ≡ [] }
+    {
+        if self.current.is_none() {
+            self.current = self.next_run();
+        }
+    }
+
     // The next rows: those of the current run, at most `limit`.
     pub fn next_limited(&mut self, limit: usize) -> Option<Piece<'a, bool>>
         ensures given { asked result ≡ piece limit (to_come self.old) }
@@ -30,13 +40,16 @@ impl<'a> OptionalPageValidity<'a> {
         ensures onward { taken (asked result) ++ flat (to_come self.new) ≡ flat (to_come self.old) }
         ensures inside { Inside result }
     {
-        let run = match self.current {
-            Some(run) => run,
-            None => self.load()?,
-        };
-        let (piece, rest) = run.split_at(limit);
-        self.current = rest;
-        Some(piece)
+        self.load();
+        match (&mut self.current, limit) {
+            (Some(run), limit) if limit < run.len() => Some(run.take_front(limit)),
+            (Some(run), _) => {
+                let last = *run;
+                self.current = None;
+                Some(last)
+            }
+            (None, _) => None,
+        }
     }
 
     // No rows.

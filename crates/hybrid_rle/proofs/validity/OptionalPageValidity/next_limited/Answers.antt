@@ -1,46 +1,37 @@
-use Rattle.std.proofs.Common.{◌≡◌, [], ◌∷◌, ◌++◌, Some, sym, refl, ap, ◌∙◌, arith}
+use Rattle.std.proofs.Common.{◌≡◌, ◌≤◌, List, Bool, ◌∷◌, ◌++◌, length, Some, sym, ap, ◌∙◌, arith}
 use Rattle.hybrid_rle.specs.Rows.{later, piece, beyond}
-use Rattle.hybrid_rle.specs.Held.{asked, held, rows}
+use Rattle.hybrid_rle.specs.Held.{held, rows}
 use Rattle.hybrid_rle.specs.Cursor.{to_come}
-use Rattle.hybrid_rle.proofs.Pieces.{beyond_more, onward_is}
+use Rattle.hybrid_rle.specs.declared.validity.OptionalPageValidity.{OptionalPageValidity}
+use Rattle.hybrid_rle.specs.declared.piece.Piece.{Piece}
+use Rattle.hybrid_rle.proofs.Pieces.{beyond_more, length_rows, onward_is, rows_whole}
 use Rattle.hybrid_rle.proofs.validity.OptionalPageValidity.next_limited.Goals as goal
-use Rattle.hybrid_rle.proofs.validity.OptionalPageValidity.next_limited.Goals.{in-Some, in-None+in_ok-run-in-None, In_err-run-in-None}
 
-pub returns : goal.returns
-returns c =
-    let v = c.match-self.self in
-    let h = c.args.self.now in
-    let others = later v.runs.left v.runs.rest.now in
-    let f : rows c.match-self.run ∷ others ≡ to_come h = elim c.match-self.branch [
-      | in-Some w ↦
-          ap (λ r. rows r ∷ others) w.run-is
-          ∙ ap (λ s. rows w.in-Some.run' ∷ later s.runs.left s.runs.rest.now) w.self-is
-          ∙ ap (λ o. held o ++ later h.runs.left h.runs.rest.now) (sym w.in-Some.is)
-      | in-None+in_ok-run-in-None w ↦
-          ap (λ r. rows r ∷ others) w.run-is
-          ∙ ap (λ s. rows w.in_ok-run-in-None.run' ∷ later s.runs.left s.runs.rest.now) w.self-is
-          ∙ w.in_ok-run-in-None.ensures.given
-          ∙ ap (λ o. held o ++ later h.runs.left h.runs.rest.now) (sym w.in-None.is)
-    ] in
-    let g = ap Some c.split_at.ensures.first ∙ ap (piece c.args.limit) f in
-    let a = ap (λ x. x ++ others) c.split_at.ensures.rest ∙ beyond_more c.args.limit (rows c.match-self.run) others ∙ ap (beyond c.args.limit) f in
-    record { given = g; after = a; onward = onward_is c.args.limit _ _ _ g a; inside = c.split_at.ensures.first_inside }
+-- the current run and those after it
+opened : (v : OptionalPageValidity) (p : Piece Bool) (all : List (List Bool)) → v.current ≡ Some p → to_come v ≡ all → rows p ∷ later v.runs.left v.runs.rest.now ≡ all
+opened v p all is same = ap (λ o. held o ++ later v.runs.left v.runs.rest.now) (sym is) ∙ same
 
--- no row is left, before and after
-none : (c : In_err-run-in-None) → (to_come c.args.self.now ≡ []) × (to_come c.load.new.self ≡ [])
-none c =
-    let h = c.args.self.now in
+pub returns-in-Some-default-clause-onward : goal.returns-in-Some-default-clause-onward
+returns-in-Some-default-clause-onward c =
     let n = c.load.new.self in
-    let e = c.in_err-run-in-None.ensures in
-    let z = ap (λ k. later k n.runs.rest.now) (e.ended refl) in (
-      ap (λ o. held o ++ later h.runs.left h.runs.rest.now) c.in-None.is ∙ sym e.given ∙ z,
-      ap (λ o. held o ++ later n.runs.left n.runs.rest.now) (e.current ∙ c.in-None.is) ∙ z,
-    )
+    let others = later n.runs.left n.runs.rest.now in
+    let run = c.in-Some-default.run' in
+    let f = opened n run (to_come c.args.self.now) c.in-Some-default.is-0 c.load.ensures.same in
+    onward_is c.args.limit (to_come c.args.self.now) (Some (rows c.take_front.result)) (rows c.take_front.new.self ∷ others)
+    (ap Some c.take_front.ensures.first ∙ ap (piece c.args.limit) f)
+    (ap (λ x. x ++ others) c.take_front.ensures.rest ∙ beyond_more c.args.limit (rows run) others ∙ ap (beyond c.args.limit) f)
 
-pub returns-in_err-run-in-None : goal.returns-in_err-run-in-None
-returns-in_err-run-in-None c =
-    let n = none (goal.at.returns-in_err-run-in-None c).In_err-run-in-None in
-    let r = c.from_residual.ensures in
-    let g = ap asked r ∙ sym (ap (piece c.args.limit) n.0) in
-    let a = n.1 ∙ sym (ap (beyond c.args.limit) n.0) in
-    record { given = g; after = a; onward = onward_is c.args.limit _ _ _ g a; inside = rw r (omega arith, omega arith) }
+pub returns-in-Some-default-2-clause-given : goal.returns-in-Some-default-2-clause-given
+returns-in-Some-default-2-clause-given c =
+    let run = c.in-Some-default.run' in
+    let short : length (rows run) ≤ c.args.limit = omega (arith, length_rows run) in
+    ap Some (rows_whole (rows run) c.args.limit short).0 ∙ ap (piece c.args.limit) (opened c.load.new.self run (to_come c.args.self.now) c.in-Some-default.is-0 c.load.ensures.same)
+
+pub returns-in-Some-default-2-clause-after : goal.returns-in-Some-default-2-clause-after
+returns-in-Some-default-2-clause-after c =
+    let n = c.load.new.self in
+    let others = later n.runs.left n.runs.rest.now in
+    let run = c.in-Some-default.run' in
+    let short : length (rows run) ≤ c.args.limit = omega (arith, length_rows run) in
+    ap (λ x. x ++ others) (rows_whole (rows run) c.args.limit short).1 ∙ beyond_more c.args.limit (rows run) others
+    ∙ ap (beyond c.args.limit) (opened n run (to_come c.args.self.now) c.in-Some-default.is-0 c.load.ensures.same)

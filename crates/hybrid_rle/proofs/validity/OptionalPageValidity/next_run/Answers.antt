@@ -4,8 +4,8 @@ use Rattle.hybrid_rle.specs.Borrowed.{stretch}
 use Rattle.hybrid_rle.specs.Held.{rows, run_end, bytes_end}
 use Rattle.hybrid_rle.proofs.Pieces.{rows_on, run_within, gives_after}
 use Rattle.hybrid_rle.proofs.Streams.{Stepped, stepped_at}
-use Rattle.hybrid_rle.proofs.validity.OptionalPageValidity.load.Goals as goal
-use Rattle.hybrid_rle.proofs.validity.OptionalPageValidity.load.Goals.{After-rows}
+use Rattle.hybrid_rle.proofs.validity.OptionalPageValidity.next_run.Goals as goal
+use Rattle.hybrid_rle.proofs.validity.OptionalPageValidity.next_run.Goals.{After-rows}
 
 pub invariant_of-self : goal.invariant_of-self
 invariant_of-self c =
