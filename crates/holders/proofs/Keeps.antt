@@ -1,5 +1,5 @@
 -- What a holder keeps, in the terms of the loops over its rows.
-use Rattle.std.proofs.Common.{◌≡◌, ℕ, zero, suc, ◌+◌, ◌-◌, ◌≤◌, Bool, true, false, ◌&&◌, leb, List, [], ◌∷◌, ◌++◌, map, length, take, drop, replicate, sym, refl, ap, ◌∙◌, subst, arith, length-append, length-drop}
+use Rattle.std.proofs.Common.{◌≡◌, ℕ, ◌+◌, ◌-◌, ◌≤◌, Bool, true, false, ◌&&◌, leb, List, [], ◌∷◌, ◌++◌, map, length, take, drop, replicate, sym, refl, ap, ◌∙◌, arith, length-append, length-drop}
 use lib.ListN.{length-map}
 use Rattle.std.proofs.lemmas.List.{take-map, take-replicate, length-take-le}
 use Rattle.std.proofs.lemmas.Bool.{le-leb, leb-true}

@@ -88,6 +88,8 @@ impl<'a> Conversion<'a, i64> for Widen {
     }
 }
 
+// The functions from here on stay apart, since each promises another column.
+
 // INT32, kept.
 pub type Int32<'a> = PageDecoder<'a, Converted<'a, i32, Keep>>;
 
