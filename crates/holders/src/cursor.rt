@@ -34,16 +34,19 @@ pub trait OverPage<'a>: Cursor {
         ensures { result ≡ true → (bs : List ℕ) → weight (value bs) ≡ 0 };
 }
 
-// What becomes of a value's bytes.
+// What becomes of a value's bytes: an interface of one function.
 pub trait Conversion<'a, T: Valued> {
     ghost value: { List ℕ → Value };
 
     fn convert(&self, bytes: &'a [u8]) -> T
         ensures { T.Valued.value result ≡ value bytes.now };
+}
 
-    // Whether no value takes any of a chunk's memory for bytes.
+// A conversion that knows whether its values take any of a chunk's memory for bytes.
+pub trait Weighed<'a, T: Valued>: Conversion<'a, T> {
+    // Whether none does.
     fn light(&self) -> bool
-        ensures { result ≡ true → (bs : List ℕ) → weight (value bs) ≡ 0 };
+        ensures { result ≡ true → (bs : List ℕ) → weight (Self.Conversion.value bs) ≡ 0 };
 }
 
 // The values of a page, each of them converted.
@@ -78,7 +81,7 @@ impl<'a, T: Valued, K: Conversion<'a, T>> Cursor for Converted<'a, T, K> {
     }
 }
 
-impl<'a, T: Valued, K: Conversion<'a, T>> OverPage<'a> for Converted<'a, T, K> {
+impl<'a, T: Valued, K: Weighed<'a, T>> OverPage<'a> for Converted<'a, T, K> {
     ghost value = { K.Conversion.value };
 
     fn load(&mut self, values: PageValues<'a>) {

@@ -8,6 +8,7 @@ mod decode;
 mod dict_indices;
 mod entry;
 mod fill;
+pub mod forms;
 pub mod holder;
 mod indices;
 mod measure;

@@ -5,8 +5,8 @@ ghost use Rattle.holders.specs.Convert.{truth, boolean as boolean_column};
 ghost use Rattle.holders.specs.Holding.{held, unused_as};
 
 use crate::primitive::decoder::PageDecoder;
-use holders::cursor::{Conversion, Converted};
-use holders::types::Form;
+use holders::cursor::{Conversion, Converted, Weighed};
+use holders::forms::Bits;
 
 // Whether the bytes are all 0.
 fn all_zero(bytes: &[u8]) -> bool
@@ -35,7 +35,9 @@ impl<'a> Conversion<'a, bool> for Truth {
     fn convert(&self, bytes: &'a [u8]) -> bool {
         is_one(bytes)
     }
+}
 
+impl<'a> Weighed<'a, bool> for Truth {
     fn light(&self) -> bool {
         true
     }
@@ -45,12 +47,12 @@ impl<'a> Conversion<'a, bool> for Truth {
 pub type BooleanValues<'a> = Converted<'a, bool, Truth>;
 
 // BOOLEAN.
-pub type Boolean<'a> = PageDecoder<'a, BooleanValues<'a>>;
+pub type Boolean<'a> = PageDecoder<'a, Bits, BooleanValues<'a>>;
 
 pub fn boolean<'a>(optional: bool) -> Boolean<'a>
     ensures column { column_of result.holder.column.form truth result.holder.column.optional ≡ boolean_column optional }
     ensures unused { unused_as truth result.holder ≡ [] }
     ensures held { held result.holder ≡ None }
 {
-    PageDecoder::new(Form::Bits, optional, Converted::new(Truth))
+    PageDecoder::new(optional, Converted::new(Truth))
 }

@@ -7,30 +7,30 @@ ghost use Rattle.holders.specs.Holding.{held, unused_as};
 use crate::primitive::decoder::PageDecoder;
 use crate::utils::Decoder;
 use faults::types::Cause;
-use holders::cursor::{Conversion, Converted, Cursor, OverPage};
+use holders::cursor::{Conversion, Converted, Cursor, OverPage, Weighed};
+use holders::forms::{Eight, Four, PageForm};
 use holders::holder::Holder;
-use holders::types::Form;
 use pages::page::Delivery;
 use sinks::pushable::{Full, Pushable, Sink, Validity};
 use values::Element;
 
-impl<'a, C: OverPage<'a>> PageDecoder<'a, C> {
+impl<'a, F: PageForm, C: OverPage<'a>> PageDecoder<'a, F, C> {
     // Neither page nor dictionary.
-    pub fn new(form: Form, optional: bool, cursor: C) -> Self
+    pub fn new(optional: bool, cursor: C) -> Self
         ensures unused { unused_as C.OverPage.value result.holder ≡ [] }
         ensures held { held result.holder ≡ None }
-        ensures form { result.holder.column.form ≡ form }
+        ensures form { result.holder.column.form ≡ F.PageForm.form }
         ensures optional { result.holder.column.optional ≡ optional }
     {
         PageDecoder {
-            holder: Holder::empty(form, optional),
+            holder: Holder::empty(optional),
             cursor,
         }
     }
 }
 
-impl<'a, C: OverPage<'a>, P: Pushable<C::Item>, V: Validity> Decoder<'a, P, V>
-    for PageDecoder<'a, C> {
+impl<'a, F, C: OverPage<'a>, P: Pushable<C::Item>, V: Validity> Decoder<'a, P, V>
+    for PageDecoder<'a, F, C> {
     ghost column = { λ d. column_of d.holder.column.form C.OverPage.value d.holder.column.optional };
 
     ghost unused = { λ d. unused_as C.OverPage.value d.holder };
@@ -66,7 +66,9 @@ impl<'a, T: Element> Conversion<'a, T> for Keep {
     fn convert(&self, bytes: &'a [u8]) -> T {
         T::read(bytes)
     }
+}
 
+impl<'a, T: Element> Weighed<'a, T> for Keep {
     fn light(&self) -> bool {
         true
     }
@@ -82,7 +84,9 @@ impl<'a> Conversion<'a, i64> for Widen {
     fn convert(&self, bytes: &'a [u8]) -> i64 {
         i64::from(i32::read(bytes))
     }
+}
 
+impl<'a> Weighed<'a, i64> for Widen {
     fn light(&self) -> bool {
         true
     }
@@ -91,67 +95,67 @@ impl<'a> Conversion<'a, i64> for Widen {
 // The functions from here on stay apart, since each promises another column.
 
 // INT32, kept.
-pub type Int32<'a> = PageDecoder<'a, Converted<'a, i32, Keep>>;
+pub type Int32<'a> = PageDecoder<'a, Four, Converted<'a, i32, Keep>>;
 
 pub fn int32<'a>(optional: bool) -> Int32<'a>
     ensures column { column_of result.holder.column.form keep_32 result.holder.column.optional ≡ int32_keep optional }
     ensures unused { unused_as keep_32 result.holder ≡ [] }
     ensures held { held result.holder ≡ None }
 {
-    PageDecoder::new(Form::Four, optional, Converted::new(Keep))
+    PageDecoder::new(optional, Converted::new(Keep))
 }
 
 // INT32, widened to eight bytes.
-pub type Int32Widen<'a> = PageDecoder<'a, Converted<'a, i64, Widen>>;
+pub type Int32Widen<'a> = PageDecoder<'a, Four, Converted<'a, i64, Widen>>;
 
 pub fn int32_widen<'a>(optional: bool) -> Int32Widen<'a>
     ensures column { column_of result.holder.column.form keep_32 result.holder.column.optional ≡ int32_as_wide optional }
     ensures unused { unused_as keep_32 result.holder ≡ [] }
     ensures held { held result.holder ≡ None }
 {
-    PageDecoder::new(Form::Four, optional, Converted::new(Widen))
+    PageDecoder::new(optional, Converted::new(Widen))
 }
 
 // INT32, its bytes as an unsigned number.
-pub type Int32Unsigned<'a> = PageDecoder<'a, Converted<'a, u32, Keep>>;
+pub type Int32Unsigned<'a> = PageDecoder<'a, Four, Converted<'a, u32, Keep>>;
 
 pub fn int32_unsigned<'a>(optional: bool) -> Int32Unsigned<'a>
     ensures column { column_of result.holder.column.form unsigned_32 result.holder.column.optional ≡ int32_as_unsigned optional }
     ensures unused { unused_as unsigned_32 result.holder ≡ [] }
     ensures held { held result.holder ≡ None }
 {
-    PageDecoder::new(Form::Four, optional, Converted::new(Keep))
+    PageDecoder::new(optional, Converted::new(Keep))
 }
 
 // INT64.
-pub type Int64<'a> = PageDecoder<'a, Converted<'a, i64, Keep>>;
+pub type Int64<'a> = PageDecoder<'a, Eight, Converted<'a, i64, Keep>>;
 
 pub fn int64<'a>(optional: bool) -> Int64<'a>
     ensures column { column_of result.holder.column.form keep_64 result.holder.column.optional ≡ int64_keep optional }
     ensures unused { unused_as keep_64 result.holder ≡ [] }
     ensures held { held result.holder ≡ None }
 {
-    PageDecoder::new(Form::Eight, optional, Converted::new(Keep))
+    PageDecoder::new(optional, Converted::new(Keep))
 }
 
 // FLOAT, held as its bits.
-pub type Float<'a> = PageDecoder<'a, Converted<'a, u32, Keep>>;
+pub type Float<'a> = PageDecoder<'a, Four, Converted<'a, u32, Keep>>;
 
 pub fn float<'a>(optional: bool) -> Float<'a>
     ensures column { column_of result.holder.column.form unsigned_32 result.holder.column.optional ≡ float_column optional }
     ensures unused { unused_as unsigned_32 result.holder ≡ [] }
     ensures held { held result.holder ≡ None }
 {
-    PageDecoder::new(Form::Four, optional, Converted::new(Keep))
+    PageDecoder::new(optional, Converted::new(Keep))
 }
 
 // DOUBLE, held as its bits.
-pub type Double<'a> = PageDecoder<'a, Converted<'a, u64, Keep>>;
+pub type Double<'a> = PageDecoder<'a, Eight, Converted<'a, u64, Keep>>;
 
 pub fn double<'a>(optional: bool) -> Double<'a>
     ensures column { column_of result.holder.column.form unsigned_64 result.holder.column.optional ≡ double_column optional }
     ensures unused { unused_as unsigned_64 result.holder ≡ [] }
     ensures held { held result.holder ≡ None }
 {
-    PageDecoder::new(Form::Eight, optional, Converted::new(Keep))
+    PageDecoder::new(optional, Converted::new(Keep))
 }

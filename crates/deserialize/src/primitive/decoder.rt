@@ -1,8 +1,8 @@
 use holders::holder::Holder;
 
-// A holder of pages, and the cursor that converts their values.
+// A holder of pages of the form F, and the cursor that converts their values.
 #[derive(Drop)]
-pub struct PageDecoder<'a, C> {
-    pub(crate) holder: Holder<'a>,
+pub struct PageDecoder<'a, F, C> {
+    pub(crate) holder: Holder<'a, F>,
     pub(crate) cursor: C,
 }

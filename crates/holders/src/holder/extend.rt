@@ -17,8 +17,9 @@ use crate::measure::{count_present, weigh_within};
 use bitmap::utils::has_room;
 use hybrid_rle::validity::OptionalPageValidity;
 use sinks::pushable::{Full, Pushable, Sink, Validity};
+use std::marker::PhantomData;
 
-impl<'a> Holder<'a> {
+impl<'a, F> Holder<'a, F> {
     // How many of the first k unused rows are present.
     fn present_among(&self, k: usize) -> usize
         requires { k ≤ self.now.rows }
@@ -103,6 +104,7 @@ impl<'a> Holder<'a> {
             rows,
             validity: page,
             values: cursor.rest(),
+            of: PhantomData,
         };
     }
 

@@ -5,30 +5,38 @@ ghost use Rattle.holders.specs.Holding.{unused, held, answered, rows_after, held
 
 use super::Holder;
 use crate::checks::{few, plain_fits};
+use crate::forms::PageForm;
 use crate::page::checked_page;
 use crate::page_values::PageValues;
 use crate::types::{Column, Dict, Form};
 use faults::types::Cause;
 use hybrid_rle::validity::OptionalPageValidity;
 use pages::page::{DataPage, Delivery, DictPage, Page};
+use std::marker::PhantomData;
 
-impl<'a> Holder<'a> {
+impl<'a, F: PageForm> Holder<'a, F> {
     // No page and no dictionary.
-    pub fn empty(form: Form, optional: bool) -> Self
+    pub fn empty(optional: bool) -> Self
         ensures rows { unused result ≡ [] }
         ensures dict { held result ≡ None }
-        ensures form { result.column.form ≡ form }
+        ensures form { result.column.form ≡ F.PageForm.form }
         ensures flag { result.column.optional ≡ optional }
     {
         Holder {
-            column: Column { form, optional },
+            column: Column {
+                form: F::form(),
+                optional,
+            },
             dict: None,
             rows: 0,
             validity: OptionalPageValidity::empty(),
             values: PageValues::empty(),
+            of: PhantomData,
         }
     }
+}
 
+impl<'a, F> Holder<'a, F> {
     // Whether a row may be null.
     pub fn optional(&self) -> bool
         ensures { result ≡ self.now.column.optional }
@@ -81,6 +89,7 @@ impl<'a> Holder<'a> {
             rows: p.rows,
             validity,
             values,
+            of: PhantomData,
         };
         Ok(())
     }
