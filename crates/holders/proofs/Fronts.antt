@@ -1,9 +1,9 @@
 -- Values, one after the other.
-use Rattle.std.proofs.Common.{◌≡◌, ℕ, zero, suc, ◌+◌, ◌-◌, ◌*◌, ◌^◌, ◌<◌, ◌≤◌, min, Bool, true, false, cond, eqb, leb, List, [], ◌∷◌, map, length, take, drop, is_some, Some, None, Option, sym, refl, ap, ◌∙◌, suc-mul, arith, length-drop, eq-eqb, eqb-true, le-leb, leb-true}
+use Rattle.std.proofs.Common.{◌≡◌, ℕ, zero, suc, ◌+◌, ◌-◌, ◌*◌, ◌^◌, ◌<◌, min, Bool, true, false, cond, eqb, leb, List, [], ◌∷◌, map, length, is_some, Some, None, Option, sym, refl, ap, ◌∙◌, arith, eq-eqb, eqb-true}
 use borrow.Author.Tests.{true-ltb}
 use Rattle.std.specs.List.{slice_get}
-use Rattle.holders.specs.Judge.{put, some_then, parts, counted, arrays_in, chosen}
-use Rattle.holders.specs.Left.{at_least, plain_left, or_none}
+use Rattle.holders.specs.Judge.{put, some_then, counted, arrays_in, chosen}
+use Rattle.holders.specs.Left.{plain_left, or_none}
 use Rattle.holders.specs.Entries.{nth_in, raw_bit}
 use Rattle.hybrid_rle.specs.Runs.{field, fields}
 use Rattle.holders.specs.declared.types.Form.{Form}
@@ -16,28 +16,10 @@ fit_of : {A : Type 0} (b : Bool) (x : A) → is_some (cond b (Some x) None) ≡ 
 fit_of true x h = refl
 fit_of false x h = absurd (grind arith)
 
-pub fixed_room : (w n : ℕ) (bs : List ℕ) → is_some (at_least w n bs) ≡ true → 0 < n → w ≤ length bs
-fixed_room w zero bs h l = absurd (omega arith)
-fixed_room w (suc n) bs h l = let f = leb-true _ _ (fit_of (leb (suc n * w) (length bs)) (parts w (suc n) bs) h) in omega (arith, suc-mul n w)
-
-pub fixed_front : (w n : ℕ) (bs : List ℕ) → is_some (at_least w n bs) ≡ true → 0 < n → put (take w bs) (at_least w (n - 1) (drop w bs)) ≡ at_least w n bs
-fixed_front w zero bs h l = absurd (omega arith)
-fixed_front w (suc n) bs h l =
-    let t = fit_of (leb (suc n * w) (length bs)) (parts w (suc n) bs) h in
-    let f = leb-true _ _ t in
-    let m : suc n - 1 ≡ n = omega arith in
-    let g : n * w ≤ length (drop w bs) = simp length-drop (omega (arith, suc-mul n w)) in
-    let u : leb (n * w) (length (drop w bs)) ≡ true = le-leb _ _ g in
-    rw (m, u, t) refl
-
 -- a value after its length
 pub array_front : (n : ℕ) (bs v after : List ℕ) → 0 < n → Some (v, after) ≡ counted bs → put v (arrays_in (n - 1) after) ≡ arrays_in n bs
 array_front zero bs v after l e = absurd (omega arith)
 array_front (suc n) bs v after l e = let m : suc n - 1 ≡ n = omega arith in rw (m, sym e) refl
-
-pub array_room : (n : ℕ) (bs : List ℕ) → is_some (arrays_in n bs) ≡ true → 0 < n → None ≡ counted bs → ⊥
-array_room zero bs h l e = absurd (omega arith)
-array_room (suc n) bs h l e = let k : is_some (arrays_in (suc n) bs) ≡ false = rw (sym e) refl in let z : true ≡ false = sym h ∙ k in absurd (grind arith)
 
 -- values by indices
 abbrev pub by_indices : Option (List (List ℕ)) → Option (List ℕ) → ℕ → Option (List (List ℕ))

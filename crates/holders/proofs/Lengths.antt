@@ -63,10 +63,6 @@ length_spread (false ∷ ps) vs h = ap suc (length_spread ps vs h)
 length_spread (true ∷ ps) [] h = absurd (omega arith)
 length_spread (true ∷ ps) (v ∷ vs) h = ap suc (length_spread ps vs (omega arith))
 
-pub unused_length : {A : Type 0} (ps : List Bool) (o : Option (List A)) → Has (needed ps) o → is_some o ≡ true → length (spread ps (or_none o)) ≡ length ps
-unused_length ps (Some vs) h s = length_spread ps vs (sym h)
-unused_length ps None h s = absurd (grind arith)
-
 pub length_given : {A : Type 0} (n : ℕ) (o : Option (List A)) → Has n o → is_some o ≡ true → n ≡ length (or_none o)
 length_given n (Some xs) h s = sym h
 length_given n None h s = absurd (grind arith)
