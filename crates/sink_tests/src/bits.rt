@@ -65,8 +65,14 @@ fn refusals_at_the_edge(rt: HostRuntime) {
     assert_eq!(rt; map.len(), 15);
     assert!(rt; map.push(false).is_ok());
     assert_eq!(rt; map.push(true), Err(Full));
-    assert_eq!(rt; map.extend_from_slice(&SOURCE, 96, 1), Err(Refusal::Outside));
-    assert_eq!(rt; map.extend_from_slice(&SOURCE, 97, 0), Err(Refusal::Outside));
+    assert_eq!(rt;
+        map.extend_from_slice(&SOURCE, 96, 1),
+        Err(Refusal::Outside)
+    );
+    assert_eq!(rt;
+        map.extend_from_slice(&SOURCE, 97, 0),
+        Err(Refusal::Outside)
+    );
     assert!(rt; map.extend_from_slice(&SOURCE, 96, 0).is_ok());
     assert_eq!(rt; map.len(), 16);
     assert_eq!(rt; memory[0], 0xFF);
