@@ -6,7 +6,8 @@ use super::utils::{bit_of, capacity_of};
 
 mod extend;
 
-// Bits appended to lent bytes. It always lies within them, and the bits of the last byte that are not used yet are 0.
+// Bits appended to lent bytes. It always lies within them, and the bits of the last byte that are not used yet are 0. The count
+// stands beside the bytes, and there is no Vec, since the caller lends the memory.
 #[derive(Drop)]
 pub struct MutableBitmap<'a> {
     buffer: &'a mut [u8],

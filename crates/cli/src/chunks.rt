@@ -72,6 +72,7 @@ pub fn print_chunks<'a, R: Print, P: Printed, V: Validity, H: Decoder<'a, P, V>,
         Err(fault) => return println!(rt; "{fault}"),
     };
     let mut chunk = 0;
+    // The read ends by its answers; the count is there because a loop must be known to end.
     for _ in 0..u64::MAX {
         match step(rt, heap, read, column, source, sink, validity, &mut chunk)? {
             Some(filling) => read = filling,

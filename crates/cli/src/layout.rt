@@ -46,6 +46,7 @@ pub fn rows_text<P: Printed, V: Validity>(
 {
     let mut text = String::from_str(heap, "[")?;
     let rows = sink.len();
+    // By number, since a sink gives its rows by number.
     for i in 0..rows {
         let row = row_text(heap, sink, validity, i)?;
         put_row(&mut text, i == 0, row.as_str())?;

@@ -10,6 +10,7 @@ use sinks::pushable::Sink;
 use std::alloc::{AllocError, Global};
 use std::fmt::Write;
 
+// One impl for each type, since what a type prints is known of that type alone.
 impl Decimal for i32 {
     ghost decimal = { λ _. refl };
 }

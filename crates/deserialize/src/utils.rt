@@ -1,7 +1,7 @@
 ghost use Rattle.std.specs.Prelude.{◌≡◌, false, List, [], ◌++◌, length, take, drop, is_ok, if◌then◌else◌, None, Option as Maybe};
 ghost use Rattle.values.specs.Values.{Row, stands};
 ghost use Rattle.pages.specs.Meaning.{meaning};
-ghost use Rattle.holders.specs.Memory.{SameMemory};
+ghost use Rattle.sinks.specs.Memory.{SameMemory};
 ghost use Rattle.model.specs.Model.{Column, Dict, verdict, held_after, bits_for};
 ghost use Rattle.model.specs.Rooms.{answered, rows_after, room_for};
 

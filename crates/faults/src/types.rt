@@ -22,7 +22,8 @@ pub enum Layer {
     Chunk,
 }
 
-// What a fault is: a source's own number is carried inside `Source`.
+// What a fault is: a source's own number is carried inside `Source`. It is a number, since a source of another crate has faults that
+// no enum here could name.
 #[derive(Clone, Copy, Debug, PartialEq, Eq, Hash)]
 pub enum Cause {
     Name,

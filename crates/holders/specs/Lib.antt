@@ -9,4 +9,3 @@ pub mod Counts
 pub mod Entries
 pub mod Cursors
 pub mod Filled
-pub mod Memory

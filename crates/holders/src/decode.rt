@@ -4,6 +4,7 @@ ghost use Rattle.hybrid_rle.specs.Held.{rows, Inside};
 ghost use Rattle.hybrid_rle.specs.Cursor.{to_come};
 ghost use Rattle.hybrid_rle.specs.Rows.{flat};
 ghost use Rattle.values.specs.Values.{fits};
+ghost use Rattle.sinks.specs.Memory.{SameMemory};
 ghost use Rattle.holders.specs.Filled.{Able, Fills, filled};
 
 use crate::cursor::Cursor;
@@ -24,8 +25,7 @@ pub(crate) fn push_piece<'p, C: Cursor, P: Pushable<C::Item>, V: Validity>(
     requires space { length (V.Validity.bits validity.old) + length (rows piece) ≤ V.Validity.room validity.old }
     ensures fills { Fills (rows piece.entry) (P.Sink.room sink.old) (P.Sink.home sink.old) (P.Sink.items sink.old) (C.Cursor.left values.old) (P.Sink.room sink.new) (P.Sink.home sink.new) (P.Sink.items sink.new) (C.Cursor.left values.new) }
     ensures bits { V.Validity.bits validity.new ≡ V.Validity.bits validity.old ++ rows piece.entry }
-    ensures space { V.Validity.room validity.new ≡ V.Validity.room validity.old }
-    ensures same { V.Validity.home validity.new ≡ V.Validity.home validity.old }
+    ensures memory { SameMemory V.Validity.room V.Validity.home validity.old validity.new }
 {
     match piece {
         Piece::Bitmap {
@@ -43,8 +43,7 @@ pub(crate) fn push_piece<'p, C: Cursor, P: Pushable<C::Item>, V: Validity>(
     }
 }
 
-// The next `limit` rows of the page into sink and validity, the present ones with the next values. The clauses of Fills stand one by
-// one here, since callers cite each by its name.
+// The next `limit` rows of the page into sink and validity, the present ones with the next values.
 pub(crate) fn extend_from_decoder<'p, C: Cursor, P: Pushable<C::Item>, V: Validity>(
     validity: &mut V,
     page: &mut OptionalPageValidity<'p>,
@@ -55,13 +54,9 @@ pub(crate) fn extend_from_decoder<'p, C: Cursor, P: Pushable<C::Item>, V: Validi
     requires rows { limit ≤ length (flat (to_come page.old)) }
     requires able { Able (P.Sink.room sink.old) (P.Sink.items sink.old) (take limit (flat (to_come page.old))) (C.Cursor.left values.old) }
     requires space { length (V.Validity.bits validity.old) + limit ≤ V.Validity.room validity.old }
-    ensures items { P.Sink.items sink.new ≡ P.Sink.items sink.old ++ filled (P.Sink.room sink.old).blank (take limit (flat (to_come page.old))) (C.Cursor.left values.old) }
-    ensures left { C.Cursor.left values.new ≡ drop (needed (take limit (flat (to_come page.old)))) (C.Cursor.left values.old) }
-    ensures room { P.Sink.room sink.new ≡ P.Sink.room sink.old }
-    ensures home { P.Sink.home sink.new ≡ P.Sink.home sink.old }
+    ensures fills { Fills (take limit (flat (to_come page.old))) (P.Sink.room sink.old) (P.Sink.home sink.old) (P.Sink.items sink.old) (C.Cursor.left values.old) (P.Sink.room sink.new) (P.Sink.home sink.new) (P.Sink.items sink.new) (C.Cursor.left values.new) }
     ensures bits { V.Validity.bits validity.new ≡ V.Validity.bits validity.old ++ take limit (flat (to_come page.old)) }
-    ensures space { V.Validity.room validity.new ≡ V.Validity.room validity.old }
-    ensures same { V.Validity.home validity.new ≡ V.Validity.home validity.old }
+    ensures memory { SameMemory V.Validity.room V.Validity.home validity.old validity.new }
     ensures page { flat (to_come page.new) ≡ drop limit (flat (to_come page.old)) }
 {
     let mut done = 0;

@@ -2,6 +2,7 @@ ghost use Rattle.std.specs.Prelude.{◌≡◌, ℕ, ◌+◌, ◌*◌, ◌^◌, �
 ghost use Rattle.hybrid_rle.specs.Rows.{bits};
 ghost use Rattle.values.specs.Values.{fits};
 ghost use Rattle.holders.specs.Judge.{needed};
+ghost use Rattle.sinks.specs.Memory.{SameMemory};
 ghost use Rattle.holders.specs.Filled.{Able, Fills};
 
 use crate::cursor::Cursor;
@@ -35,8 +36,7 @@ pub(crate) fn extend_required<C: Cursor, P: Pushable<C::Item>>(
     requires fits { fits (P.Sink.room sink.old) (P.Sink.items sink.old ++ take limit (C.Cursor.left values.old)) ≡ true }
     ensures items { P.Sink.items sink.new ≡ P.Sink.items sink.old ++ take limit (C.Cursor.left values.old) }
     ensures left { C.Cursor.left values.new ≡ drop limit (C.Cursor.left values.old) }
-    ensures room { P.Sink.room sink.new ≡ P.Sink.room sink.old }
-    ensures home { P.Sink.home sink.new ≡ P.Sink.home sink.old }
+    ensures memory { SameMemory P.Sink.room P.Sink.home sink.old sink.new }
 {
     for _i in 0..limit {
         push_row(sink, values, true);
@@ -55,6 +55,7 @@ pub(crate) fn push_bits<C: Cursor, P: Pushable<C::Item>>(
     requires able { Able (P.Sink.room sink.old) (P.Sink.items sink.old) (bits bytes.now offset n) (C.Cursor.left values.old) }
     ensures { Fills (bits bytes.now offset n) (P.Sink.room sink.old) (P.Sink.home sink.old) (P.Sink.items sink.old) (C.Cursor.left values.old) (P.Sink.room sink.new) (P.Sink.home sink.new) (P.Sink.items sink.new) (C.Cursor.left values.new) }
 {
+    // Bit by bit by number: the bits lie packed, and those past the end count as 0, where BitmapIter would refuse them.
     for i in 0..n {
         let present = get_bit(bytes, offset + i);
         push_row(sink, values, present);

@@ -11,6 +11,7 @@ fn packed_below(bytes: &[u8], w: u8, n: usize, entries: u32) -> bool
     requires { (w ≤ 32) × (n * w < 2 ^ 63) }
     ensures { result ≡ all_below entries (fields w n bytes.now 0) }
 {
+    // By number: the numbers lie packed, and there is no slice of them to go over.
     for i in 0..n {
         if unpacked(bytes, w, i * w as usize) >= entries {
             return false;

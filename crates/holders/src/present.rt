@@ -15,6 +15,7 @@ fn ones(bytes: &[u8], offset: usize, n: usize) -> usize
     requires { offset + n < 2 ^ 64 }
     ensures { result ≡ needed (bits bytes.now offset n) }
 {
+    // Bit by bit by number: the bits lie packed, and those past the end count as 0, where BitmapIter would refuse them.
     let mut count = 0;
     for i in 0..n {
         count += get_bit(bytes, offset + i) as usize;

@@ -4,7 +4,7 @@ ghost use Rattle.pages.specs.Heads.{sorted};
 use crate::fault::SourceFault;
 
 // Where a page lies in a buffer, and what it is, as a file says it: sort 0 a dictionary, 1 a data page; its rows or entries;
-// encoding and flag of a data page. The sort is a number here, since a file may have any.
+// encoding and flag of a data page. Sort, encoding and flag are numbers here, since a file may have any.
 #[derive(Clone, Copy)]
 pub struct Head {
     pub sort: u8,

@@ -1,6 +1,7 @@
 use crate::fault::SourceFault;
 
-// A data page: rows, their encoding, whether a row may be null, and the body.
+// A data page: rows, their encoding, whether a row may be null, and the body. The encoding is the number that the page has: any
+// number may stand there, and the check of the page refuses those that are not read.
 #[derive(Clone, Copy)]
 pub struct DataPage<'a> {
     pub rows: u32,

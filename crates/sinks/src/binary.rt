@@ -11,6 +11,7 @@ use values::kinds::Place;
 
 // Rows of bytes in lent memory: the first `used` bytes are those of the rows, one row after the other, and the first
 // rows + 1 offsets say where each row begins and the last one ends. Without memory for offsets there are no rows.
+// The caller lends both, so there is no Vec.
 #[derive(Drop)]
 pub struct Binary<'a> {
     offsets: &'a mut [i32],

@@ -9,7 +9,7 @@ use crate::pushable::{Full, Pushable, Sink};
 use bitmap::utils::has_room;
 use values::Element;
 
-// Elements in lent memory, the first `used` of it.
+// Elements in lent memory, the first `used` of it: the caller lends the memory, so there is no Vec.
 #[derive(Drop)]
 pub struct Fixed<'a, T> {
     memory: &'a mut [T],

@@ -2,6 +2,7 @@ ghost use Rattle.std.specs.Prelude.{◌≡◌, ℕ, ◌+◌, Bool, true, false, 
 ghost use Rattle.std.specs.Option.{option_map};
 ghost use Rattle.bitmap.specs.Bitmaps.{part, capacity};
 ghost use Rattle.bitmap.specs.Refusals.{sliced};
+ghost use Rattle.sinks.specs.Memory.{SameMemory};
 ghost use Rattle.values.specs.Values.{Value, Room, fits, joined, seen_at, bit_at, weight, weights};
 
 pub use bitmap::mutable::Full;
@@ -9,8 +10,7 @@ use bitmap::mutable::Refusal;
 use values::{Meant, Valued};
 
 // A sink means a list of values, and has room for some rows and some bytes. It refuses exactly when its list would
-// outgrow its room, and then nothing is changed, to the last byte of its memory. The clauses stand in full at each method,
-// here and in the two traits below, since proofs of the crates above cite each by its name.
+// outgrow its room, and then nothing is changed, to the last byte of its memory.
 pub trait Sink {
     type Item: Meant + Copy;
 
@@ -41,8 +41,7 @@ pub trait Sink {
     // Empties it.
     fn clear(&mut self)
         ensures items { items self.new ≡ [] }
-        ensures room { room self.new ≡ room self.old }
-        ensures home { home self.new ≡ home self.old };
+        ensures memory { SameMemory room home self.old self.new };
 
     // Row i, if there is one.
     fn get(&mut self, i: usize) -> Option<Self::Item>
@@ -53,8 +52,7 @@ pub trait Sink {
     fn push_null(&mut self) -> Result<(), Full>
         ensures answer { is_ok result ≡ fits (room self.old) (items self.old ++ ((room self.old).blank ∷ [])) }
         ensures items { items self.new ≡ joined (room self.old) (items self.old) ((room self.old).blank ∷ []) }
-        ensures room { room self.new ≡ room self.old }
-        ensures home { home self.new ≡ home self.old }
+        ensures memory { SameMemory room home self.old self.new }
         ensures kept { is_ok result ≡ false → self.new ≡ self.old }
     {
         self.push_nulls(1)
@@ -64,8 +62,7 @@ pub trait Sink {
     fn push_nulls(&mut self, n: usize) -> Result<(), Full>
         ensures answer { is_ok result ≡ fits (room self.old) (items self.old ++ replicate n (room self.old).blank) }
         ensures items { items self.new ≡ joined (room self.old) (items self.old) (replicate n (room self.old).blank) }
-        ensures room { room self.new ≡ room self.old }
-        ensures home { home self.new ≡ home self.old }
+        ensures memory { SameMemory room home self.old self.new }
         ensures kept { is_ok result ≡ false → self.new ≡ self.old };
 }
 
@@ -74,8 +71,7 @@ pub trait Pushable<T: Valued>: Sink {
     fn push(&mut self, v: T) -> Result<(), Full>
         ensures answer { is_ok result ≡ fits (Self.Sink.room self.old) (Self.Sink.items self.old ++ (T.Valued.value v ∷ [])) }
         ensures items { Self.Sink.items self.new ≡ joined (Self.Sink.room self.old) (Self.Sink.items self.old) (T.Valued.value v ∷ []) }
-        ensures room { Self.Sink.room self.new ≡ Self.Sink.room self.old }
-        ensures home { Self.Sink.home self.new ≡ Self.Sink.home self.old }
+        ensures memory { SameMemory Self.Sink.room Self.Sink.home self.old self.new }
         ensures kept { is_ok result ≡ false → self.new ≡ self.old };
 }
 
@@ -95,8 +91,7 @@ pub trait Validity {
 
     fn clear(&mut self)
         ensures bits { bits self.new ≡ [] }
-        ensures room { room self.new ≡ room self.old }
-        ensures home { home self.new ≡ home self.old };
+        ensures memory { SameMemory room home self.old self.new };
 
     // Bit i; at or past the end it is 1.
     fn get(&mut self, i: usize) -> bool
@@ -107,15 +102,13 @@ pub trait Validity {
     fn extend_constant(&mut self, n: usize, value: bool) -> Result<(), Full>
         ensures answer { is_ok result ≡ nat_le (length (bits self.old) + n) (room self.old) }
         ensures bits { bits self.new ≡ (if is_ok result then bits self.old ++ replicate n value else bits self.old) }
-        ensures room { room self.new ≡ room self.old }
-        ensures home { home self.new ≡ home self.old }
+        ensures memory { SameMemory room home self.old self.new }
         ensures kept { is_ok result ≡ false → self.new ≡ self.old };
 
     // n bits of some bytes from bit `offset` on, all or none.
     fn extend_from_slice(&mut self, bytes: &[u8], offset: usize, n: usize) -> Result<(), Refusal>
         ensures answer { result ≡ sliced (capacity (length bytes.now)) (room self.old) (length (bits self.old)) offset n }
         ensures bits { bits self.new ≡ (if is_ok result then bits self.old ++ part offset n bytes.now else bits self.old) }
-        ensures room { room self.new ≡ room self.old }
-        ensures home { home self.new ≡ home self.old }
+        ensures memory { SameMemory room home self.old self.new }
         ensures kept { is_ok result ≡ false → self.new ≡ self.old };
 }

@@ -3,6 +3,8 @@ ghost use Rattle.values.specs.Little.{signed, unsigned};
 
 use super::Element;
 
+// One impl for each type: the library's integers have no trait in common that reads bytes with a promise, and an impl may not be
+// written by a macro here.
 impl Element for i32 {
     ghost int = { λ n. n };
 

@@ -3,7 +3,7 @@ ghost use Rattle.values.specs.Values.{fits, stands, weights};
 ghost use Rattle.model.specs.Model.{bits_for, bits_due};
 ghost use Rattle.model.specs.Rooms.{room_for};
 ghost use Rattle.holders.specs.Judge.{needed};
-ghost use Rattle.holders.specs.Memory.{SameMemory};
+ghost use Rattle.sinks.specs.Memory.{SameMemory};
 ghost use Rattle.holders.specs.Left.{present_left};
 ghost use Rattle.holders.specs.Cursors.{to_give};
 ghost use Rattle.holders.specs.Filled.{Able, filled};

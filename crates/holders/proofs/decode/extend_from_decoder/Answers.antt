@@ -72,6 +72,6 @@ loop-done-preserved g c =
       z.fills.room ∙ c.loop-done.invariant.4,
       z.fills.home ∙ c.loop-done.invariant.5,
       z.bits ∙ ap (λ l. l ++ xs) c.loop-done.invariant.6 ∙ append_assoc (g.V.Validity.bits c.args.validity.now) (take d F) xs ∙ ap (λ l. g.V.Validity.bits c.args.validity.now ++ l) (sym x),
-      z.space ∙ c.loop-done.invariant.7,
-      z.same ∙ c.loop-done.invariant.8,
+      z.memory.0 ∙ c.loop-done.invariant.7,
+      z.memory.1 ∙ c.loop-done.invariant.8,
     )

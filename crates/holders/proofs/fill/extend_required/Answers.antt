@@ -26,6 +26,5 @@ returns g c =
     record {
       items = c.loop-i.invariant.items ∙ ap (λ j. its ++ filled b (replicate j true) vs) i ∙ ap (λ l. its ++ l) (filled_values b c.args.limit vs c.requires.some);
       left = c.loop-i.invariant.left ∙ ap (λ j. drop (needed (replicate j true)) vs) i ∙ ap (λ j. drop j vs) (needed_values c.args.limit);
-      room = c.loop-i.invariant.room;
-      home = c.loop-i.invariant.home;
+      memory = (c.loop-i.invariant.room, c.loop-i.invariant.home);
     }

@@ -34,7 +34,7 @@ returns-clause-left g c =
     let a = c.args in
     let vs = g.C.Cursor.left a.cursor.now in
     elim c.if-optional.branch [
-      | then-optional w ↦ ap g.C.Cursor.left w.cursor-is ∙ w.extend_from_decoder.ensures.left ∙ ap (λ t. drop (needed (take a.k t)) vs) (sym (flat_is a.optional a.rows a.page.now w.if-optional.true))
+      | then-optional w ↦ ap g.C.Cursor.left w.cursor-is ∙ w.extend_from_decoder.ensures.fills.left ∙ ap (λ t. drop (needed (take a.k t)) vs) (sym (flat_is a.optional a.rows a.page.now w.if-optional.true))
       | else-optional w ↦ ap g.C.Cursor.left w.cursor-is ∙ w.extend_required.ensures.left ∙ ap (λ n. drop n vs) (sym (ap needed (first_all a.optional a.rows a.k a.page.now w.if-optional.false c.requires.rows) ∙ needed_values a.k))
     ]
 
@@ -44,7 +44,7 @@ returns-clause-items g c =
     let vs = g.C.Cursor.left a.cursor.now in
     let b = (g.P.Sink.room a.sink.now).blank in
     elim c.if-optional.branch [
-      | then-optional w ↦ ap g.P.Sink.items w.sink-is ∙ w.extend_from_decoder.ensures.items ∙ ap (λ t. g.P.Sink.items a.sink.now ++ filled b (take a.k t) vs) (sym (flat_is a.optional a.rows a.page.now w.if-optional.true))
+      | then-optional w ↦ ap g.P.Sink.items w.sink-is ∙ w.extend_from_decoder.ensures.fills.items ∙ ap (λ t. g.P.Sink.items a.sink.now ++ filled b (take a.k t) vs) (sym (flat_is a.optional a.rows a.page.now w.if-optional.true))
       | else-optional w ↦
           let p = first_all a.optional a.rows a.k a.page.now w.if-optional.false c.requires.rows in
           let e = subst (λ t. Able (g.P.Sink.room a.sink.now) (g.P.Sink.items a.sink.now) t vs) p c.requires.able in
