@@ -2,21 +2,12 @@ ghost use Rattle.std.specs.Prelude.{◌≡◌, ◌≤◌, true, is_some};
 ghost use Rattle.holders.specs.Judge as judge;
 ghost use Rattle.holders.specs.Shapes.{halves};
 
-use hybrid_rle::runs::first_number;
-
 // A 4-byte length and that many bytes: they, and the bytes after them.
 pub(crate) fn counted<'a>(bytes: &'a [u8]) -> Option<(&'a [u8], &'a [u8])>
     ensures { halves result ≡ judge.counted bytes.now }
 {
-    if bytes.len() < 4 {
-        return None;
-    }
-    let n = first_number(bytes) as usize;
-    let (_, rest) = bytes.split_at(4);
-    if n > rest.len() {
-        return None;
-    }
-    Some(rest.split_at(n))
+    let (length, rest) = bytes.split_first_chunk()?;
+    rest.split_at_checked(u32::from_le_bytes(*length) as usize)
 }
 
 // Whether the bytes begin with n such values.
