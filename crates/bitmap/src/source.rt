@@ -49,7 +49,7 @@ impl Bits for Constant {
     }
 }
 
-// n bits of some bytes, from bit `offset` on.
+// n bits of some bytes, from bit `offset` on. BitmapIter has no such place to be asked for eight bits at once.
 #[derive(Clone, Copy)]
 pub(crate) struct Slice<'a> {
     bytes: &'a [u8],

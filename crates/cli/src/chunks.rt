@@ -13,7 +13,6 @@ use read::states::{Filling, MaybeNext};
 use read::take::take;
 use sinks::pushable::{Sink, Validity};
 use std::alloc::Global;
-use std::io;
 
 // Makes one call and prints its answer: the read to go on with, or none at the end or where the chunk itself was refused, since
 // the same call would answer the same again.
@@ -26,7 +25,7 @@ fn step<'a, R: Print, P: Printed, V: Validity, H: Decoder<'a, P, V>, S: Pages<'a
     sink: &mut P,
     validity: &mut V,
     chunk: &mut u64,
-) -> io::Result<Option<Filling>>
+) -> anyhow::Result<Option<Filling>>
     ensures sink { (P.Sink.room sink.new ≡ P.Sink.room sink.old) × (P.Sink.home sink.new ≡ P.Sink.home sink.old) }
     ensures validity { (V.Validity.room validity.new ≡ V.Validity.room validity.old) × (V.Validity.home validity.new ≡ V.Validity.home validity.old) }
     ensures column { H.Decoder.column column.new ≡ H.Decoder.column column.old }
@@ -62,14 +61,14 @@ pub fn print_chunks<'a, R: Print, P: Printed, V: Validity, H: Decoder<'a, P, V>,
     source: &mut S,
     sink: &mut P,
     validity: &mut V,
-) -> io::Result<()>
+) -> anyhow::Result<()>
     ensures sink { (P.Sink.room sink.new ≡ P.Sink.room sink.old) × (P.Sink.home sink.new ≡ P.Sink.home sink.old) }
     ensures validity { (V.Validity.room validity.new ≡ V.Validity.room validity.old) × (V.Validity.home validity.new ≡ V.Validity.home validity.old) }
     ensures column { H.Decoder.column column.new ≡ H.Decoder.column column.old }
 {
     let mut read = match open(wanted.chunk, wanted.limit) {
         Ok(read) => read,
-        Err(fault) => return println!(rt; "{fault}"),
+        Err(fault) => return Ok(println!(rt; "{fault}")?),
     };
     let mut chunk = 0;
     // The read ends by its answers; the count is there because a loop must be known to end.

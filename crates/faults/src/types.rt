@@ -22,8 +22,8 @@ pub enum Layer {
     Chunk,
 }
 
-// What a fault is: a source's own number is carried inside `Source`. It is a number, since a source of another crate has faults that
-// no enum here could name.
+// What a fault is: a source's own number is carried inside `Source`. It is a number, since a read passes on the number of
+// any source, and two names of one number would be two faults.
 #[derive(Clone, Copy, Debug, PartialEq, Eq, Hash)]
 pub enum Cause {
     Name,

@@ -14,6 +14,7 @@ use Rattle.holders.specs.Columns.{row_of}
 use Rattle.holders.specs.Holding.{unused_as}
 use Rattle.holders.specs.Left.{present_left}
 use Rattle.holders.specs.Cursors.{to_give}
+use Rattle.holders.specs.declared.forms.PageForm.{Ghosts}
 use Rattle.holders.specs.declared.holder.Holder.{Holder}
 use Rattle.holders.specs.declared.page_values.PageValues.{PageValues}
 use Rattle.holders.proofs.Spreads.{first_stands, rows_left, needs_left, enough_first}
@@ -28,7 +29,7 @@ pub values_number : (v : PageValues) → v.n ≡ length (to_give v)
 values_number v = length_given v.n _ (has_values v.form v.n v.values) v.there
 
 -- each present row has its value
-pub all_needed : {F : Type 0} (h : Holder F) → needed (present_left h.column.optional h.rows h.validity) ≡ length (to_give h.values)
+pub all_needed : {F : Type 0} {gs : Ghosts F} (h : Holder F gs) → needed (present_left h.column.optional h.rows h.validity) ≡ length (to_give h.values)
 all_needed h = h.page ∙ values_number h.values
 
 module _ (f : List ℕ → Value) (light : (bs : List ℕ) → weight (f bs) ≡ 0) where
@@ -41,21 +42,21 @@ module _ (f : List ℕ → Value) (light : (bs : List ℕ) → weight (f bs) ≡
   light_fit m spare xs = sym (le-leb _ spare (omega (arith, ap weights (take-map f m xs), weightless (take m xs))))
 
 -- the holder's rows are counted
-pub unused_number : {F : Type 0} (h : Holder F) (f : List ℕ → Value) → length (unused_as f h) ≡ h.rows
+pub unused_number : {F : Type 0} {gs : Ghosts F} (h : Holder F gs) (f : List ℕ → Value) → length (unused_as f h) ≡ h.rows
 unused_number h f =
     let ps = present_left h.column.optional h.rows h.validity in
     length-map (spread ps (to_give h.values)) (row_of f) ∙ length_spread ps (to_give h.values) (all_needed h) ∙ h.count
 
-pub enough : {F : Type 0} (h : Holder F) → needed (present_left h.column.optional h.rows h.validity) ≤ length (to_give h.values)
+pub enough : {F : Type 0} {gs : Ghosts F} (h : Holder F gs) → needed (present_left h.column.optional h.rows h.validity) ≤ length (to_give h.values)
 enough h = let a = all_needed h in omega arith
 
 -- what the loops leave in a holder: n rows, by presence in v, with the values w
-pub record LeftIn {F : Type 0} (h : Holder F) (f : List ℕ → Value) (k n : ℕ) (v : OptionalPageValidity) (w : PageValues) : Type 0 where
+pub record LeftIn {F : Type 0} {gs : Ghosts F} (h : Holder F gs) (f : List ℕ → Value) (k n : ℕ) (v : OptionalPageValidity) (w : PageValues) : Type 0 where
   pub page : needed (present_left h.column.optional n v) ≡ w.n
   pub count : length (present_left h.column.optional n v) ≡ n
   pub rows : map (row_of f) (spread (present_left h.column.optional n v) (to_give w)) ≡ drop k (unused_as f h)
 
-module _ {F : Type 0} (h : Holder F) (f : List ℕ → Value) (k : ℕ) where
+module _ {F : Type 0} {gs : Ghosts F} (h : Holder F gs) (f : List ℕ → Value) (k : ℕ) where
   abbrev ps : List Bool
   ps = present_left h.column.optional h.rows h.validity
 

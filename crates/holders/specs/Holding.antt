@@ -6,12 +6,13 @@ use Rattle.holders.specs.Left.{present_left, held_entries}
 use Rattle.values.specs.Values.{Value, Row}
 use Rattle.holders.specs.Cursors.{to_give}
 use Rattle.holders.specs.Columns.{row_of}
+use Rattle.holders.specs.declared.forms.PageForm.{Ghosts}
 use Rattle.holders.specs.declared.holder.Holder.{Holder}
 
-abbrev pub unused : {F : Type 0} → Holder F → List (Option (List ℕ))
+abbrev pub unused : {F : Type 0} {g : Ghosts F} → Holder F g → List (Option (List ℕ))
 unused h = spread (present_left h.column.optional h.rows h.validity) (to_give h.values)
 
-abbrev pub held : {F : Type 0} → Holder F → Option (List (List ℕ))
+abbrev pub held : {F : Type 0} {g : Ghosts F} → Holder F g → Option (List (List ℕ))
 held h = held_entries h.dict
 
 abbrev pub answered : {D R : Type 0} → Verdict D R → Result (Unit {0}) Cause
@@ -31,12 +32,12 @@ held_after (Holds d) old = d
 held_after (Fault e) old = old
 
 -- what a page comes to, and a dictionary, with what is held
-abbrev pub page_verdict : {F : Type 0} → Holder F → ℕ → ℕ → Bool → List ℕ → Verdict (List (List ℕ)) (Option (List ℕ))
+abbrev pub page_verdict : {F : Type 0} {g : Ghosts F} → Holder F g → ℕ → ℕ → Bool → List ℕ → Verdict (List (List ℕ)) (Option (List ℕ))
 page_verdict h n e flag bs = as_page (page_rows h.column.form h.column.optional (held h) n e flag bs)
 
-abbrev pub dict_verdict : {F : Type 0} → Holder F → ℕ → List ℕ → Verdict (List (List ℕ)) (Option (List ℕ))
+abbrev pub dict_verdict : {F : Type 0} {g : Ghosts F} → Holder F g → ℕ → List ℕ → Verdict (List (List ℕ)) (Option (List ℕ))
 dict_verdict h n bs = as_dict (dict_held h.column.form (held h) n bs)
 
 -- the rows not used yet, each null or its converted value
-abbrev pub unused_as : {F : Type 0} → (List ℕ → Value) → Holder F → List Row
+abbrev pub unused_as : {F : Type 0} {g : Ghosts F} → (List ℕ → Value) → Holder F g → List Row
 unused_as f h = map (row_of f) (unused h)

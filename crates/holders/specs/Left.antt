@@ -64,3 +64,8 @@ held_entries (Some d) = dict_entries d
 abbrev pub or_none : {A : Type 0} → Option (List A) → List A
 or_none (Some xs) = xs
 or_none None = []
+
+-- the form of the dictionary held, if there is one
+abbrev pub dict_form : Form → Option Dict → Form
+dict_form f None = f
+dict_form f (Some d) = d.form

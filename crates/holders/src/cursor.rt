@@ -1,12 +1,12 @@
-ghost use Rattle.std.specs.Prelude.{◌≡◌, ℕ, true, List, [], map};
+ghost use Rattle.std.specs.Prelude.{◌≡◌, ℕ, true, List, [], map, ℤ};
 ghost use Rattle.std.specs.Option.{option_map};
 ghost use Rattle.pages.specs.Delivered.{first, others};
-ghost use Rattle.values.specs.Values.{Value, weight};
+ghost use Rattle.values.specs.Values.{Value, number, weight};
 ghost use Rattle.holders.specs.Cursors.{to_give};
 
 use crate::page_values::PageValues;
 use std::marker::PhantomData;
-use values::Valued;
+use values::{Element, Valued};
 
 // Values that come one after the other.
 pub trait Cursor {
@@ -34,22 +34,16 @@ pub trait OverPage<'a>: Cursor {
         ensures { result ≡ true → (bs : List ℕ) → weight (value bs) ≡ 0 };
 }
 
-// What becomes of a value's bytes: an interface of one function.
-pub trait Conversion<'a, T: Valued> {
-    ghost value: { List ℕ → Value };
+// What becomes of a number's bytes: an interface of one function.
+pub trait Conversion<T: Element> {
+    ghost int: { List ℕ → ℤ };
 
-    fn convert(&self, bytes: &'a [u8]) -> T
-        ensures { T.Valued.value result ≡ value bytes.now };
+    fn convert(&self, bytes: &[u8]) -> T
+        ensures { T.Element.int result ≡ int bytes.now };
 }
 
-// A conversion that knows whether its values take any of a chunk's memory for bytes.
-pub trait Weighed<'a, T: Valued>: Conversion<'a, T> {
-    // Whether none does.
-    fn light(&self) -> bool
-        ensures { result ≡ true → (bs : List ℕ) → weight (Self.Conversion.value bs) ≡ 0 };
-}
-
-// The values of a page, each of them converted.
+// The values of a page, converted to numbers. Flags and byte values have cursors of their own: a flag is no number, and byte values
+// borrow and take a chunk's memory for bytes, which a conversion of one function could not say.
 #[derive(Drop)]
 pub struct Converted<'a, T, K> {
     values: PageValues<'a>,
@@ -57,7 +51,7 @@ pub struct Converted<'a, T, K> {
     item: PhantomData<T>,
 }
 
-impl<'a, T: Valued, K: Conversion<'a, T>> Converted<'a, T, K> {
+impl<'a, T: Element, K: Conversion<T>> Converted<'a, T, K> {
     // Over no page.
     pub fn new(op: K) -> Self
         ensures { to_give result.values ≡ [] }
@@ -70,10 +64,10 @@ impl<'a, T: Valued, K: Conversion<'a, T>> Converted<'a, T, K> {
     }
 }
 
-impl<'a, T: Valued, K: Conversion<'a, T>> Cursor for Converted<'a, T, K> {
+impl<'a, T: Element, K: Conversion<T>> Cursor for Converted<'a, T, K> {
     type Item = T;
 
-    ghost left = { λ s. map K.Conversion.value (to_give s.values) };
+    ghost left = { λ s. map (λ bs. number (K.Conversion.int bs)) (to_give s.values) };
 
     fn next(&mut self) -> Option<T> {
         let bytes = self.values.next()?;
@@ -81,8 +75,8 @@ impl<'a, T: Valued, K: Conversion<'a, T>> Cursor for Converted<'a, T, K> {
     }
 }
 
-impl<'a, T: Valued, K: Weighed<'a, T>> OverPage<'a> for Converted<'a, T, K> {
-    ghost value = { K.Conversion.value };
+impl<'a, T: Element, K: Conversion<T>> OverPage<'a> for Converted<'a, T, K> {
+    ghost value = { λ bs. number (K.Conversion.int bs) };
 
     fn load(&mut self, values: PageValues<'a>) {
         self.values = values;
@@ -93,6 +87,6 @@ impl<'a, T: Valued, K: Weighed<'a, T>> OverPage<'a> for Converted<'a, T, K> {
     }
 
     fn light(&self) -> bool {
-        self.op.light()
+        true
     }
 }

@@ -47,7 +47,7 @@ pub struct Directory<'a> {
 }
 
 impl<'a> Directory<'a> {
-    // All the heads, from the first on.
+    // All the heads, from the first on. Apart from `new`, so that what it gives is proved without the laws.
     fn over(buffer: &'a [u8], heads: &'a [Head]) -> Directory<'a>
         ensures { in_directory result ≡ listed buffer.now heads.now }
     {

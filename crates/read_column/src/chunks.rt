@@ -4,10 +4,9 @@ use cli::words::Wanted;
 use deserialize::primitive::basic::int32;
 use pages::stream::Stream;
 use sinks::fixed::Fixed;
-use std::io;
 
 // Reads the page stream to its end and prints each answer.
-pub fn print_pages(rt: &HostRuntime, wanted: Wanted, bytes: &[u8]) -> io::Result<()> {
+pub fn print_pages(rt: &HostRuntime, wanted: Wanted, bytes: &[u8]) -> anyhow::Result<()> {
     let rows = wanted.chunk as usize;
     let mut memory = vec![in rt.alloc(); 0i32; rows]?;
     let mut flags = vec![in rt.alloc(); 0u8; rows / 8 + 1]?;

@@ -29,8 +29,7 @@ fn run(rt: &HostRuntime) -> anyhow::Result<()> {
     let Ok(bytes) = fs::read(rt, file.as_str()) else {
         return Err(anyhow!("the file cannot be read"));
     };
-    chunks::print_pages(rt, wanted, bytes.as_slice())?;
-    Ok(())
+    chunks::print_pages(rt, wanted, bytes.as_slice())
 }
 
 fn main(rt: HostRuntime) -> ExitCode {

@@ -12,7 +12,7 @@ fn number(text: &str, mistake: Mistake) -> Result<u32, Mistake>
     text.parse::<u32>().map_err(|_| mistake)
 }
 
-// What the words ask for, or the first that is wrong.
+// What the words ask for, or the first that is wrong. Beside cli's, which reads every kind and takes no plus sign.
 pub fn understand(name: &str, flag: &str, chunk: &str, limit: &str) -> Result<Wanted, Mistake>
     ensures { IfOk result (λ w. Means name.now flag.now chunk.now limit.now w) }
 {

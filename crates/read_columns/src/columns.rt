@@ -9,7 +9,6 @@ use deserialize::primitive::basic::{double, float, int32, int32_unsigned, int32_
 use pages::pages::Pages;
 use sinks::binary::Binary;
 use sinks::fixed::Fixed;
-use std::io;
 
 // The bytes that the rows of a chunk may have together.
 const BYTES: usize = 16777216;
@@ -31,7 +30,7 @@ fn print_flags<'a, S: Pages<'a>>(
     wanted: Wanted,
     source: &mut S,
     validity: &mut MutableBitmap<'_>,
-) -> io::Result<()> {
+) -> anyhow::Result<()> {
     let mut memory = vec![in rt.alloc(); 0u8; wanted.chunk as usize / 8 + 1]?;
     let mut sink = MutableBitmap::new(memory.as_mut_slice());
     let mut column = boolean(wanted.optional);
@@ -52,7 +51,7 @@ fn print_bytes<'a, S: Pages<'a>>(
     wanted: Wanted,
     source: &mut S,
     validity: &mut MutableBitmap<'_>,
-) -> io::Result<()> {
+) -> anyhow::Result<()> {
     let mut offsets = vec![in rt.alloc(); 0i32; wanted.chunk as usize + 1]?;
     let mut memory = vec![in rt.alloc(); 0u8; BYTES]?;
     let mut sink = Binary::new(offsets.as_mut_slice(), memory.as_mut_slice());
@@ -74,7 +73,7 @@ pub fn print_column<'a, S: Pages<'a>>(
     wanted: Wanted,
     column: Column,
     source: &mut S,
-) -> io::Result<()> {
+) -> anyhow::Result<()> {
     let optional = wanted.optional;
     let mut flags = vec![in rt.alloc(); 0u8; wanted.chunk as usize / 8 + 1]?;
     let mut validity = MutableBitmap::new(flags.as_mut_slice());

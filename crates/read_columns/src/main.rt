@@ -41,8 +41,7 @@ fn read_directory(
         return Err(anyhow!("the file of heads has no whole number of heads of 15 bytes"));
     };
     let mut source = Directory::new(buffer, heads.as_slice());
-    print_column(rt, wanted, column, &mut source)?;
-    Ok(())
+    print_column(rt, wanted, column, &mut source)
 }
 
 fn run(rt: &HostRuntime) -> anyhow::Result<()> {
@@ -57,8 +56,7 @@ fn run(rt: &HostRuntime) -> anyhow::Result<()> {
         return Err(anyhow!("the file cannot be read"));
     };
     let Some(heads) = options.heads.and_then(|i| rest.get(i)) else {
-        print_column(rt, wanted, column, &mut Stream::new(bytes.as_slice()))?;
-        return Ok(());
+        return print_column(rt, wanted, column, &mut Stream::new(bytes.as_slice()));
     };
     read_directory(rt, wanted, column, bytes.as_slice(), heads.as_str())
 }

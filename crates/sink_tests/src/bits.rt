@@ -15,6 +15,7 @@ fn appended(rt: &impl Abort, start: usize, offset: usize, n: usize) {
     assert!(rt; map.extend_constant(start, true).is_ok());
     assert!(rt; map.extend_from_slice(&SOURCE, offset, n).is_ok());
     assert_eq!(rt; map.len(), start + n);
+    // By number: the index is what is tested.
     for i in 0..start {
         assert_eq!(rt; map.get(i), Some(true));
     }

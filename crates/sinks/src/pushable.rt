@@ -3,6 +3,7 @@ ghost use Rattle.std.specs.Option.{option_map};
 ghost use Rattle.bitmap.specs.Bitmaps.{part, capacity};
 ghost use Rattle.bitmap.specs.Refusals.{sliced};
 ghost use Rattle.sinks.specs.Memory.{SameMemory};
+ghost use Rattle.sinks.specs.Pushes.{Pushes};
 ghost use Rattle.values.specs.Values.{Value, Room, fits, joined, seen_at, bit_at, weight, weights};
 
 pub use bitmap::mutable::Full;
@@ -50,29 +51,20 @@ pub trait Sink {
 
     // One stand-in for a null.
     fn push_null(&mut self) -> Result<(), Full>
-        ensures answer { is_ok result ≡ fits (room self.old) (items self.old ++ ((room self.old).blank ∷ [])) }
-        ensures items { items self.new ≡ joined (room self.old) (items self.old) ((room self.old).blank ∷ []) }
-        ensures memory { SameMemory room home self.old self.new }
-        ensures kept { is_ok result ≡ false → self.new ≡ self.old }
+        ensures { Pushes items room home self.old self.new ((room self.old).blank ∷ []) result }
     {
         self.push_nulls(1)
     }
 
     // n stand-ins, all or none.
     fn push_nulls(&mut self, n: usize) -> Result<(), Full>
-        ensures answer { is_ok result ≡ fits (room self.old) (items self.old ++ replicate n (room self.old).blank) }
-        ensures items { items self.new ≡ joined (room self.old) (items self.old) (replicate n (room self.old).blank) }
-        ensures memory { SameMemory room home self.old self.new }
-        ensures kept { is_ok result ≡ false → self.new ≡ self.old };
+        ensures { Pushes items room home self.old self.new (replicate n (room self.old).blank) result };
 }
 
 // A sink that a T can be pushed into.
 pub trait Pushable<T: Valued>: Sink {
     fn push(&mut self, v: T) -> Result<(), Full>
-        ensures answer { is_ok result ≡ fits (Self.Sink.room self.old) (Self.Sink.items self.old ++ (T.Valued.value v ∷ [])) }
-        ensures items { Self.Sink.items self.new ≡ joined (Self.Sink.room self.old) (Self.Sink.items self.old) (T.Valued.value v ∷ []) }
-        ensures memory { SameMemory Self.Sink.room Self.Sink.home self.old self.new }
-        ensures kept { is_ok result ≡ false → self.new ≡ self.old };
+        ensures { Pushes Self.Sink.items Self.Sink.room Self.Sink.home self.old self.new (T.Valued.value v ∷ []) result };
 }
 
 // A validity means a list of bits, 1 for a present row, and has room for some.

@@ -74,6 +74,7 @@ impl<'a> MutableBitmap<'a> {
         requires room { self.old.used + (end - start) ≤ capacity (length self.old.buffer.now) }
         ensures { Appends self.old self.new (bits_between (S.at source.now) start end) }
     {
+        // By number, since a source's bits lie packed.
         for i in start..end {
             self.push_unchecked(source.bit(i));
         }

@@ -1,12 +1,14 @@
-ghost use Rattle.std.specs.Prelude.{◌≡◌, [], None, ◌==◌};
+ghost use Rattle.std.specs.Prelude.{◌≡◌, [], map, None, ◌==◌};
 ghost use Rattle.values.specs.Little.{little};
 ghost use Rattle.holders.specs.Columns.{column_of};
 ghost use Rattle.holders.specs.Convert.{truth, boolean as boolean_column};
+ghost use Rattle.holders.specs.Cursors.{to_give};
 ghost use Rattle.holders.specs.Holding.{held, unused_as};
 
 use crate::primitive::decoder::PageDecoder;
-use holders::cursor::{Conversion, Converted, Weighed};
+use holders::cursor::{Cursor, OverPage};
 use holders::forms::Bits;
+use holders::page_values::PageValues;
 
 // Whether the bytes are all 0.
 fn all_zero(bytes: &[u8]) -> bool
@@ -25,26 +27,49 @@ fn is_one(bytes: &[u8]) -> bool
     }
 }
 
-// A bit as a flag.
-#[derive(Clone, Copy)]
-pub struct Truth;
+// The values of a page as flags. Beside Converted, since a conversion is to numbers.
+#[derive(Drop)]
+pub struct BooleanValues<'a> {
+    values: PageValues<'a>,
+}
 
-impl<'a> Conversion<'a, bool> for Truth {
-    ghost value = { truth };
-
-    fn convert(&self, bytes: &'a [u8]) -> bool {
-        is_one(bytes)
+impl<'a> BooleanValues<'a> {
+    // Over no page.
+    pub fn new() -> Self
+        ensures { to_give result.values ≡ [] }
+    {
+        BooleanValues {
+            values: PageValues::empty(),
+        }
     }
 }
 
-impl<'a> Weighed<'a, bool> for Truth {
+impl<'a> Cursor for BooleanValues<'a> {
+    type Item = bool;
+
+    ghost left = { λ s. map truth (to_give s.values) };
+
+    fn next(&mut self) -> Option<bool> {
+        let bytes = self.values.next()?;
+        Some(is_one(bytes))
+    }
+}
+
+impl<'a> OverPage<'a> for BooleanValues<'a> {
+    ghost value = { truth };
+
+    fn load(&mut self, values: PageValues<'a>) {
+        self.values = values;
+    }
+
+    fn rest(&self) -> PageValues<'a> {
+        self.values
+    }
+
     fn light(&self) -> bool {
         true
     }
 }
-
-// The values of a page as flags.
-pub type BooleanValues<'a> = Converted<'a, bool, Truth>;
 
 // BOOLEAN.
 pub type Boolean<'a> = PageDecoder<'a, Bits, BooleanValues<'a>>;
@@ -54,5 +79,5 @@ pub fn boolean<'a>(optional: bool) -> Boolean<'a>
     ensures unused { unused_as truth result.holder ≡ [] }
     ensures held { held result.holder ≡ None }
 {
-    PageDecoder::new(optional, Converted::new(Truth))
+    PageDecoder::new(optional, BooleanValues::new())
 }

@@ -1,5 +1,5 @@
 ghost use Rattle.std.specs.Prelude.{◌≡◌, false, cond, List, [], ◌++◌, length, None};
-ghost use Rattle.values.specs.Values.{number};
+ghost use Rattle.values.specs.Little.{signed};
 ghost use Rattle.holders.specs.Columns.{column_of};
 ghost use Rattle.holders.specs.Convert.{keep_32, unsigned_32, keep_64, unsigned_64, int32_keep, int32_as_wide, int32_as_unsigned, int64_keep, float as float_column, double as double_column};
 ghost use Rattle.holders.specs.Holding.{held, unused_as};
@@ -7,7 +7,7 @@ ghost use Rattle.holders.specs.Holding.{held, unused_as};
 use crate::primitive::decoder::PageDecoder;
 use crate::utils::Decoder;
 use faults::types::Cause;
-use holders::cursor::{Conversion, Converted, Cursor, OverPage, Weighed};
+use holders::cursor::{Conversion, Converted, Cursor, OverPage};
 use holders::forms::{Eight, Four, PageForm};
 use holders::holder::Holder;
 use pages::page::Delivery;
@@ -29,7 +29,7 @@ impl<'a, F: PageForm, C: OverPage<'a>> PageDecoder<'a, F, C> {
     }
 }
 
-impl<'a, F, C: OverPage<'a>, P: Pushable<C::Item>, V: Validity> Decoder<'a, P, V>
+impl<'a, F: PageForm, C: OverPage<'a>, P: Pushable<C::Item>, V: Validity> Decoder<'a, P, V>
     for PageDecoder<'a, F, C> {
     ghost column = { λ d. column_of d.holder.column.form C.OverPage.value d.holder.column.optional };
 
@@ -60,17 +60,11 @@ impl<'a, F, C: OverPage<'a>, P: Pushable<C::Item>, V: Validity> Decoder<'a, P, V
 #[derive(Clone, Copy)]
 pub struct Keep;
 
-impl<'a, T: Element> Conversion<'a, T> for Keep {
-    ghost value = { λ bs. number (T.Element.reading bs) };
+impl<T: Element> Conversion<T> for Keep {
+    ghost int = { T.Element.reading };
 
-    fn convert(&self, bytes: &'a [u8]) -> T {
+    fn convert(&self, bytes: &[u8]) -> T {
         T::read(bytes)
-    }
-}
-
-impl<'a, T: Element> Weighed<'a, T> for Keep {
-    fn light(&self) -> bool {
-        true
     }
 }
 
@@ -78,21 +72,13 @@ impl<'a, T: Element> Weighed<'a, T> for Keep {
 #[derive(Clone, Copy)]
 pub struct Widen;
 
-impl<'a> Conversion<'a, i64> for Widen {
-    ghost value = { keep_32 };
+impl Conversion<i64> for Widen {
+    ghost int = { signed 4 };
 
-    fn convert(&self, bytes: &'a [u8]) -> i64 {
+    fn convert(&self, bytes: &[u8]) -> i64 {
         i64::from(i32::read(bytes))
     }
 }
-
-impl<'a> Weighed<'a, i64> for Widen {
-    fn light(&self) -> bool {
-        true
-    }
-}
-
-// The functions from here on stay apart, since each promises another column.
 
 // INT32, kept.
 pub type Int32<'a> = PageDecoder<'a, Four, Converted<'a, i32, Keep>>;

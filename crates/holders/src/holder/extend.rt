@@ -13,13 +13,14 @@ use super::Holder;
 use crate::cursor::{Cursor, OverPage};
 use crate::decode::extend_from_decoder;
 use crate::fill::extend_required;
+use crate::forms::PageForm;
 use crate::measure::{count_present, weigh_within};
 use bitmap::utils::has_room;
 use hybrid_rle::validity::OptionalPageValidity;
 use sinks::pushable::{Full, Pushable, Sink, Validity};
 use std::marker::PhantomData;
 
-impl<'a, F> Holder<'a, F> {
+impl<'a, F: PageForm> Holder<'a, F> {
     // How many of the first k unused rows are present.
     fn present_among(&self, k: usize) -> usize
         requires { k ≤ self.now.rows }
@@ -134,7 +135,8 @@ impl<'a, F> Holder<'a, F> {
     }
 }
 
-// The first k of a page's rows go into sink and validity, the present ones with the cursor's values: the rows after them.
+// The first k of a page's rows go into sink and validity, the present ones with the cursor's values. The answer is the number
+// of rows after them.
 fn extend_rows<'p, C: Cursor, P: Pushable<C::Item>, V: Validity>(
     optional: bool,
     rows: u32,

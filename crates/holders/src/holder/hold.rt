@@ -34,9 +34,7 @@ impl<'a, F: PageForm> Holder<'a, F> {
             of: PhantomData,
         }
     }
-}
 
-impl<'a, F> Holder<'a, F> {
     // Whether a row may be null.
     pub fn optional(&self) -> bool
         ensures { result ≡ self.now.column.optional }

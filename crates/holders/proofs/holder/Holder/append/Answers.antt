@@ -27,7 +27,7 @@ invariant_of-self g c =
     let k = c.args.k in
     let e = c.extend_rows-rows.ensures in
     let l = kept_rows h g.C.OverPage.value k c.extend_rows-rows.result c.extend_rows-rows.new.page c.rest.result e.rows e.page (c.rest.ensures ∙ e.left ∙ ap (drop (needed (take k (present_left h.column.optional h.rows h.validity)))) c.load.ensures) in
-    record { page = l.page; count = l.count }
+    record { form = c.args.self.now.form; dictionary = c.args.self.now.dictionary; page = l.page; count = l.count }
 
 pub returns-clause-unused : goal.returns-clause-unused
 returns-clause-unused g c =

@@ -1,14 +1,10 @@
-use Rattle.std.proofs.Common.{true, take, replicate}
+use Rattle.std.proofs.Common.{true, take, replicate, rules}
 use lib.ListN.{length-replicate}
 use Rattle.sinks.proofs.Rows.{numbers_grown, zeros}
 use Rattle.sinks.proofs.fixed.FixedSink.push_nulls.Goals as goal
 
-pub returns-clause-answer : goal.returns-clause-answer
-returns-clause-answer g c =
+pub returns : goal.returns
+returns g c =
     let s = c.args.self.now in let t = c.fill.new.self in let n = c.args.n in let z = c.zero-zero.result in let f = g.T.Element.int in
-    (numbers_grown f s.memory.now s.used n (replicate n z) (take t.used t.memory.now) _ true s.within (length-replicate n z) (zeros f n z c.zero-zero.ensures) c.if-not-has_space.ensures c.fill.ensures.items).0
-
-pub returns-clause-items : goal.returns-clause-items
-returns-clause-items g c =
-    let s = c.args.self.now in let t = c.fill.new.self in let n = c.args.n in let z = c.zero-zero.result in let f = g.T.Element.int in
-    (numbers_grown f s.memory.now s.used n (replicate n z) (take t.used t.memory.now) _ true s.within (length-replicate n z) (zeros f n z c.zero-zero.ensures) c.if-not-has_space.ensures c.fill.ensures.items).1
+    let p = (numbers_grown f s.memory.now s.used n (replicate n z) (take t.used t.memory.now) _ true s.within (length-replicate n z) (zeros f n z c.zero-zero.ensures) c.if-not-has_space.ensures c.fill.ensures.items) in
+    record { answer = p.0; items = p.1; memory = search rules; kept = search rules }
