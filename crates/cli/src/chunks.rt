@@ -1,5 +1,6 @@
 // A column read to its end, with a line for each answer.
 ghost use Rattle.std.specs.Prelude.{◌≡◌};
+ghost use Rattle.sinks.specs.Memory.{SameMemory};
 
 use crate::layout::rows_text;
 use crate::printed::Printed;
@@ -26,8 +27,8 @@ fn step<'a, R: Print, P: Printed, V: Validity, H: Decoder<'a, P, V>, S: Pages<'a
     validity: &mut V,
     chunk: &mut u64,
 ) -> anyhow::Result<Option<Filling>>
-    ensures sink { (P.Sink.room sink.new ≡ P.Sink.room sink.old) × (P.Sink.home sink.new ≡ P.Sink.home sink.old) }
-    ensures validity { (V.Validity.room validity.new ≡ V.Validity.room validity.old) × (V.Validity.home validity.new ≡ V.Validity.home validity.old) }
+    ensures sink { SameMemory P.Sink.room P.Sink.home sink.old sink.new }
+    ensures validity { SameMemory V.Validity.room V.Validity.home validity.old validity.new }
     ensures column { H.Decoder.column column.new ≡ H.Decoder.column column.old }
 {
     match next(read, column, source, sink, validity) {
@@ -62,8 +63,8 @@ pub fn print_chunks<'a, R: Print, P: Printed, V: Validity, H: Decoder<'a, P, V>,
     sink: &mut P,
     validity: &mut V,
 ) -> anyhow::Result<()>
-    ensures sink { (P.Sink.room sink.new ≡ P.Sink.room sink.old) × (P.Sink.home sink.new ≡ P.Sink.home sink.old) }
-    ensures validity { (V.Validity.room validity.new ≡ V.Validity.room validity.old) × (V.Validity.home validity.new ≡ V.Validity.home validity.old) }
+    ensures sink { SameMemory P.Sink.room P.Sink.home sink.old sink.new }
+    ensures validity { SameMemory V.Validity.room V.Validity.home validity.old validity.new }
     ensures column { H.Decoder.column column.new ≡ H.Decoder.column column.old }
 {
     let mut read = match open(wanted.chunk, wanted.limit) {

@@ -30,6 +30,7 @@ impl fmt::Display for Cause {
         f.write_str(match self {
             Cause::Name => "no such type name",
             Cause::Open => "a chunk size of 0 or above 65536",
+            // By number, since a cause has the number alone. Faults 4 and 5 of a directory have no words of their own.
             Cause::Source(1) => "the stream has an unknown command (source fault 1)",
             Cause::Source(2) => "the stream is cut short (source fault 2)",
             Cause::Source(3) => "the stream has a flag that is neither 0 nor 1 (source fault 3)",

@@ -82,7 +82,9 @@ fn bits_fit(n: usize, bytes: &[u8]) -> bool
     (n + 7) / 8 <= bytes.len()
 }
 
-// Whether the rule for plain values holds.
+// Whether the rule for plain values holds: the rule of each form in one match. Here and in the tests below it the answer is a bool,
+// since callers name different causes, and the bound 1048576 stands in each `requires`, since a type for such a number would be
+// made and taken apart at each.
 pub(crate) fn plain_fits(form: Form, optional: bool, n: usize, bytes: &[u8]) -> bool
     requires { n ≤ 1048576 }
     ensures { result ≡ is_some (judge.plain form optional n bytes.now) }

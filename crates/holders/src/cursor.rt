@@ -8,7 +8,8 @@ use crate::page_values::PageValues;
 use std::marker::PhantomData;
 use values::{Element, Valued};
 
-// Values that come one after the other.
+// Values that come one after the other. A trait of its own, no Iterator: what it has left is a list of values, which code over any
+// cursor takes from and drops from.
 pub trait Cursor {
     type Item: Valued;
 

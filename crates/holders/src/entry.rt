@@ -6,7 +6,8 @@ ghost use Rattle.holders.specs.Left.{dict_entries};
 use crate::arrays::counted;
 use crate::types::{Dict, Form};
 
-// The ith of n values, by going over those before it.
+// The ith of n values, by going over those before it. Beside `arrays_fit`, which asks whether they are there: an Option would have to
+// be ruled out here by the same proof.
 fn array_at<'a>(bytes: &'a [u8], n: usize, i: usize) -> &'a [u8]
     requires { (is_some (judge.arrays_in n bytes.now) ≡ true) × (i < n) }
     ensures { Some result.now ≡ nth_in (judge.arrays_in n bytes.now) i }

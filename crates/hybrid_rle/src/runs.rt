@@ -9,6 +9,7 @@ use crate::piece::Piece;
 use crate::unpack::unpacked;
 
 // A run of numbers, over the bytes that it was read from: packed ones begin at the first bit, where a Piece may begin at any.
+// As one type, each run would have to promise its place besides.
 #[derive(Clone, Copy)]
 pub enum Run<'a> {
     Bitmap { bytes: &'a [u8], length: usize },
@@ -36,7 +37,8 @@ impl<'a> Run<'a> {
         }
     }
 
-    // The rows of a run of one-bit numbers: number 1 is a present row.
+    // The rows of a run of one-bit numbers: number 1 is a present row. Beside the conversion to numbers below, since one map over the
+    // value would need a contract on its closure.
     pub fn rows(self) -> Piece<'a, bool>
         ensures piece { result ≡ as_rows self.entry }
         ensures near { run_end (Some result) < 2 ^ 64 }
@@ -97,11 +99,9 @@ fn packed_run<'a>(groups: usize, w: u8, body: &'a [u8]) -> Result<(Run<'a>, &'a 
     requires { groups < 2 ^ 31 }
     ensures { meant result ≡ packed_in groups w body.now }
 {
-    let size = groups * w as usize;
-    if size > body.len() {
-        return Err(Broken::Short);
-    }
-    let (bytes, rest) = body.split_at(size);
+    let (bytes, rest) = body
+        .split_at_checked(groups * w as usize)
+        .ok_or(Broken::Short)?;
     let length = groups * 8;
     Ok((Run::Bitmap { bytes, length }, rest))
 }
@@ -111,11 +111,9 @@ fn repeated_run<'a>(length: usize, w: u8, body: &'a [u8]) -> Result<(Run<'a>, &'
     requires { w ≤ 32 }
     ensures { meant result ≡ repeated_in length w body.now }
 {
-    let size = (w as usize + 7) / 8;
-    if size > body.len() {
-        return Err(Broken::Short);
-    }
-    let (number, rest) = body.split_at(size);
+    let (number, rest) = body
+        .split_at_checked((w as usize + 7) / 8)
+        .ok_or(Broken::Short)?;
     let value = first_number(number);
     Ok((Run::Repeated { value, length }, rest))
 }
@@ -145,7 +143,8 @@ pub fn next_run<'a>(bytes: &'a [u8], w: u8) -> Result<(Run<'a>, &'a [u8]), Broke
     read_run(bytes, w)
 }
 
-// The next `left` numbers of `w` bits of a stream of runs, run by run. No Iterator, since `?` wants the Result outside.
+// The next `left` numbers of `w` bits of a stream of runs, run by run. No Iterator: its items would be
+// Results, and it would have to say what comes after an error, which no walk asks for.
 #[derive(Clone, Copy)]
 pub struct Runs<'a> {
     pub w: u8,

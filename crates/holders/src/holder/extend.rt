@@ -99,6 +99,7 @@ impl<'a, F: PageForm> Holder<'a, F> {
             sink,
             validity,
         );
+        // Written whole, so that its ghost fields are shown once, of the new values.
         *self = Holder {
             column: self.column,
             dict: self.dict,

@@ -81,6 +81,7 @@ impl<'a, F: PageForm> Holder<'a, F> {
     {
         let mut validity = OptionalPageValidity::empty();
         let values = checked_page(self.column, self.dict, &mut validity, p)?;
+        // Written whole, so that its ghost fields are shown once, of the new values.
         *self = Holder {
             column: self.column,
             dict: self.dict,

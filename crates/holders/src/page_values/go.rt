@@ -34,6 +34,7 @@ impl<'a> PageValues<'a> {
             return None;
         }
         let (value, values) = self.front();
+        // Written whole, so that its ghost field is shown once, of the new values.
         *self = PageValues {
             form: self.form,
             n: self.n - 1,
