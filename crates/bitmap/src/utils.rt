@@ -72,7 +72,7 @@ pub(crate) fn capacity_of(bytes: &[u8]) -> usize
     bytes.len().saturating_mul(8)
 }
 
-// Some bits of borrowed bytes, one after another.
+// Some bits of borrowed bytes, one after another. Two numbers and no Range, which is not Copy.
 #[derive(Clone, Copy)]
 pub struct BitmapIter<'a> {
     bytes: &'a [u8],

@@ -36,7 +36,8 @@ pub enum Awaited {
 }
 
 // What the options say: the conversion, which of the option words names the file of heads, and whether to print JSON. The word is
-// named by its place: a borrowed text would tie the options to the words and their definition to a borrow.
+// named by its place: a borrowed text would tie the options to the words and their definition to a borrow. `awaits` matters while the
+// words are read; it is empty at the end.
 #[derive(Clone, Copy, Debug, PartialEq, Eq, Hash)]
 pub struct Options {
     pub awaits: Option<Awaited>,

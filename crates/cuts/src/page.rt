@@ -58,6 +58,7 @@ fn look(
     validity: &mut MutableBitmap<'_>,
     seen: &mut Seen,
 ) -> Result<(), AllocError> {
+    // By number, since a sink gives its rows by number.
     for i in 0..sink.len() {
         let valid = <MutableBitmap<'_> as Validity>::get(validity, i);
         seen.rows.push(if valid { sink.get(i) } else { None })?;
@@ -88,6 +89,7 @@ fn read_all(
     let Ok(mut read) = open(chunk, limit) else {
         return Ok(seen);
     };
+    // The read ends by its answers; the count is there because a loop must be known to end.
     for _ in 0..1000 {
         match next(read, &mut column, &mut source, &mut sink, &mut validity) {
             MaybeNext::More(filling) => read = filling,

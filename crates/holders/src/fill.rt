@@ -9,7 +9,8 @@ use crate::cursor::Cursor;
 use bitmap::utils::get_bit;
 use sinks::pushable::{Pushable, Sink};
 
-// One row into the sink: the next value, or a stand-in.
+// One row into the sink: the next value, or a stand-in. Here and below sink and cursor are two parameters, as sink and validity are: a
+// struct of the two borrows would be lent anew at each call.
 pub(crate) fn push_row<C: Cursor, P: Pushable<C::Item>>(sink: &mut P, values: &mut C, present: bool)
     requires { Able (P.Sink.room sink.old) (P.Sink.items sink.old) (present ∷ []) (C.Cursor.left values.old) }
     ensures { Fills (present ∷ []) (P.Sink.room sink.old) (P.Sink.home sink.old) (P.Sink.items sink.old) (C.Cursor.left values.old) (P.Sink.room sink.new) (P.Sink.home sink.new) (P.Sink.items sink.new) (C.Cursor.left values.new) }

@@ -2,7 +2,8 @@ ghost use Rattle.std.specs.Prelude.{◌≡◌, ◌+◌, ◌^◌, ◌<◌, [], �
 ghost use Rattle.hybrid_rle.specs.Rows.{beyond};
 ghost use Rattle.hybrid_rle.specs.Held.{held, piece_count, rows, Inside};
 
-// Items that come next: those packed in the bytes from bit `offset` on, or one item repeated.
+// Items that come next: those packed in the bytes from bit `offset` on, or one item repeated. Plain data: that a bitmap lies in its
+// bytes is asked where rows are taken, since numbers past the end count as 0.
 #[derive(Clone, Copy)]
 pub enum Piece<'a, T> {
     Bitmap {

@@ -17,7 +17,7 @@ use std::{env, fs};
 const USAGE: &str =
     "usage: read_columns FILE KIND optional|required CHUNK LIMIT [--conversion keep|widen|unsigned] [--directory HEADS]";
 
-// The words of the command line after the program's name.
+// The words of the command line after the program's name: all of them, where read_column takes six at most.
 fn arguments(rt: &HostRuntime) -> anyhow::Result<Vec<String>> {
     let mut words = Vec::new(rt.alloc());
     for word in env::args(rt)?.skip(1) {

@@ -54,7 +54,7 @@ impl<'a> OverPage<'a> for BinaryIter<'a> {
     }
 }
 
-// BYTE_ARRAY.
+// BYTE_ARRAY. A function of its own, since it promises another column.
 pub type ByteArray<'a> = PageDecoder<'a, Arrays, BinaryIter<'a>>;
 
 pub fn byte_array<'a>(optional: bool) -> ByteArray<'a>

@@ -71,7 +71,7 @@ impl<'a> OverPage<'a> for BooleanValues<'a> {
     }
 }
 
-// BOOLEAN.
+// BOOLEAN. A function of its own, since it promises another column.
 pub type Boolean<'a> = PageDecoder<'a, Bits, BooleanValues<'a>>;
 
 pub fn boolean<'a>(optional: bool) -> Boolean<'a>
