@@ -35,7 +35,7 @@ fn part_at<'a>(bytes: &'a [u8], w: usize, n: usize, i: usize) -> &'a [u8]
 }
 
 impl<'a> Dict<'a> {
-    // The bytes of an entry.
+    // The bytes of an entry: the rule of each form in one match.
     pub(crate) fn get(self, i: usize) -> &'a [u8]
         requires { i < self.entries }
         ensures { Some result.now ≡ nth_in (dict_entries self.entry) i }

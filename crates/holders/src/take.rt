@@ -8,7 +8,7 @@ use crate::page_values::PageValues;
 use crate::types::{Form, Values};
 use hybrid_rle::unpack::unpacked;
 
-// The first of n plain values of whole bytes, and the bytes after it.
+// The first of n plain values of whole bytes, and the bytes after it: the rule of each form in one match.
 fn whole_front<'a>(form: Form, n: usize, bytes: &'a [u8]) -> (&'a [u8], &'a [u8])
     requires { (is_some (plain_left form n bytes.now 0) ≡ true) × ((0 < n) × (judge.coded form ≡ true)) }
     ensures { judge.put result.0.now (plain_left form (n - 1) result.1.now 0) ≡ plain_left form n bytes.now 0 }

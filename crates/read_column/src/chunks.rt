@@ -5,7 +5,8 @@ use deserialize::primitive::basic::int32;
 use pages::stream::Stream;
 use sinks::fixed::Fixed;
 
-// Reads the page stream to its end and prints each answer.
+// Reads the page stream to its end and prints each answer. One case of what read_columns does for each kind, whose macro cannot be
+// shared with another program.
 pub fn print_pages(rt: &HostRuntime, wanted: Wanted, bytes: &[u8]) -> anyhow::Result<()> {
     let rows = wanted.chunk as usize;
     let mut memory = vec![in rt.alloc(); 0i32; rows]?;
