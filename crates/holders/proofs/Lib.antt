@@ -13,3 +13,4 @@ pub mod Along
 pub mod Measures
 pub mod Spreads
 pub mod Keeps
+pub mod Found

@@ -42,7 +42,8 @@ impl Indices<'_> {
         }
     }
 
-    // The next run becomes the current one.
+    // The next run becomes the current one. Apart from `next`, which every index goes through.
+    #[inline(never)]
     fn load(&mut self)
         requires { (is_some (indices_left self.old) ≡ true) × ((current_count self.old.current ≡ 0) × (0 < self.old.runs.left)) }
         ensures same { indices_left self.new ≡ indices_left self.old }

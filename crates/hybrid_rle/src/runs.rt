@@ -153,7 +153,9 @@ pub struct Runs<'a> {
 }
 
 impl<'a> Runs<'a> {
-    // The next run, up to the last of the numbers; none where no number is left.
+    // The next run, up to the last of the numbers; none where no number is left. It is compiled into each walk: a call for each run
+    // would cost as much as the run.
+    #[inline(always)]
     pub fn next(&mut self) -> Result<Option<Run<'a>>, Broken>
         ensures given { stepped result self.new ≡ step self.old.w self.old.left self.old.rest.now }
         ensures width { self.new.w ≡ self.old.w }

@@ -4,7 +4,7 @@ ghost use Rattle.hybrid_rle.specs.Held.{Inside};
 
 mod step;
 
-use crate::piece::Piece;
+pub use crate::piece::Piece;
 use crate::runs::Runs;
 
 // The rows of a page that are still to come: those of the run that rows are taken from, and those of the runs after it.

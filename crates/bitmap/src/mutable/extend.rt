@@ -59,7 +59,11 @@ impl<'a> MutableBitmap<'a> {
         if !has_room(self.used, n, self.capacity()) {
             return Err(Full);
         }
-        let gap = n.min((8 - self.used % 8) % 8);
+        let gap = (8 - self.used % 8) % 8;
+        if n <= gap {
+            self.extend_bits(source, 0, n);
+            return Ok(());
+        }
         let last = n - (n - gap) % 8;
         self.extend_bits(source, 0, gap);
         self.extend_bytes(source, gap, last);

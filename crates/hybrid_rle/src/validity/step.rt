@@ -1,8 +1,8 @@
-ghost use Rattle.std.specs.Prelude.{◌≡◌, true, [], ◌++◌, length, is_ok};
+ghost use Rattle.std.specs.Prelude.{◌≡◌, ◌≤◌, true, [], ◌++◌, length, is_ok, IfSome};
 ghost use Rattle.hybrid_rle.specs.Cursor.{to_come};
 ghost use Rattle.hybrid_rle.specs.Rows.{piece, beyond, in_place, later, taken, flat};
 ghost use Rattle.hybrid_rle.specs.Runs.{runs, sound};
-ghost use Rattle.hybrid_rle.specs.Held.{asked, held, Inside};
+ghost use Rattle.hybrid_rle.specs.Held.{asked, held, piece_count, Inside};
 
 use super::OptionalPageValidity;
 use crate::header::Broken;
@@ -17,19 +17,33 @@ impl<'a> OptionalPageValidity<'a> {
         ensures ended { result ≡ None → self.new.runs.left ≡ 0 }
         ensures current { self.new.current ≡ self.old.current }
     {
-        match self.runs.next() {
+        // The width is written out, so that each step is compiled for one bit.
+        let mut runs = Runs { w: 1, ..self.runs };
+        let found = runs.next();
+        self.runs = runs;
+        match found {
             Ok(run) => Some(run?.rows()),
             Err(_) => unreachable(),
         }
     }
 
-    // Where no run is current, the next run of the stream becomes it.
-    fn load(&mut self)
-        ensures same { to_come self.new ≡ to_come self.old }
-        ensures ended { self.new.current ≡ None → to_come self.new ≡ [] }
+    // Where no run is current, the next run of the stream: it is the answer where the limit takes it whole, since it need not be kept
+    // then, and else it becomes the current run.
+    fn load(&mut self, limit: usize) -> Option<Piece<'a, bool>>
+        ensures same { held result ++ to_come self.new ≡ to_come self.old }
+        ensures whole { IfSome result (λ run. piece_count run ≤ limit) }
+        ensures inside { Inside result }
+        ensures ended { result ≡ None → self.new.current ≡ None → to_come self.new ≡ [] }
     {
-        if self.current.is_none() {
-            self.current = self.next_run();
+        if self.current.is_some() {
+            return None;
+        }
+        match self.next_run() {
+            Some(run) if run.len() <= limit => Some(run),
+            run => {
+                self.current = run;
+                None
+            }
         }
     }
 
@@ -40,7 +54,9 @@ impl<'a> OptionalPageValidity<'a> {
         ensures onward { taken (asked result) ++ flat (to_come self.new) ≡ flat (to_come self.old) }
         ensures inside { Inside result }
     {
-        self.load();
+        if let Some(run) = self.load(limit) {
+            return Some(run);
+        }
         match (&mut self.current, limit) {
             (Some(run), limit) if limit < run.len() => Some(run.take_front(limit)),
             (Some(run), _) => {
