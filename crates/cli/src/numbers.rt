@@ -59,6 +59,7 @@ fn hex_digit(n: u8) -> char
 }
 
 // A byte by its two hexadecimal digits, which are pushed one by one: a formatter for each byte takes three times as long.
+#[tactic(auto, using(std::proofs::lemmas::List::append_assoc))]
 fn put_hex(text: &mut String, b: u8) -> Result<(), AllocError>
     ensures { is_ok result ≡ true → string_bytes text.new ≡ string_bytes text.old ++ hex_text b }
 {
