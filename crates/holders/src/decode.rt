@@ -43,7 +43,9 @@ pub(crate) fn push_piece<'p, C: Cursor, P: Pushable<C::Item>, V: Validity>(
     }
 }
 
-// The next `limit` rows of the page into sink and validity, the present ones with the next values.
+// The next `limit` rows of the page into sink and validity, the present ones with the next values. A function of its own when compiled,
+// so that its loop has the registers.
+#[inline(never)]
 pub(crate) fn extend_from_decoder<'p, C: Cursor, P: Pushable<C::Item>, V: Validity>(
     validity: &mut V,
     page: &mut OptionalPageValidity<'p>,

@@ -12,7 +12,9 @@ use faults::types::Cause;
 use hybrid_rle::validity::OptionalPageValidity;
 use pages::page::DataPage;
 
-// Faults 4 to 10, in order: the rows by presence in `v`, and their values.
+// Faults 4 to 10, in order: the rows by presence in `v`, and their values. A function of its own when compiled, so that its walks have
+// the registers.
+#[inline(never)]
 pub(crate) fn checked_page<'a>(
     column: Column,
     dict: Option<Dict<'a>>,
